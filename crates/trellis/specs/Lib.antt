@@ -1,0 +1,10 @@
+pub mod Numbers
+pub mod Rows
+pub mod Label
+pub mod Mapper
+pub mod Step
+pub mod Limits
+pub mod Parity
+pub mod Path
+pub mod Precoder
+pub mod Burst

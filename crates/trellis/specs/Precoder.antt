@@ -1,0 +1,29 @@
+-- The precoder: from a data word to a label.
+use Prim.Native.Nat.{ℕ, _+_, _*_, _%_, _^_}
+use lib.Bits.{bitXor}
+use Rattle.trellis.specs.Label.{gather, put, turnsBy}
+use Rattle.trellis.specs.declared.Numbers.{Numbers}
+use Rattle.trellis.specs.Numbers.{polynomials}
+use Rattle.trellis.specs.Parity.{syndrome}
+use Rattle.trellis.specs.Rows.{labelRows}
+use Rattle.trellis.specs.Step.{step, differentialBits}
+
+-- V: the number that the differential bits of a label form. Their rows turn by the step or more.
+abbrev pub differential : Numbers → ℕ → ℕ
+differential n z = gather (turnsBy (step n)) (labelRows n) z
+
+-- A data word at its place in a label: data bit i-1 belongs to label bit zi, and z0 is 0.
+abbrev pub placed : ℕ → ℕ
+placed w = 2 * w
+
+-- The new V: the word's number at the differential places is added to the old V.
+abbrev pub risen : Numbers → ℕ → ℕ → ℕ
+risen n V w = (V + differential n (placed w)) % 2 ^ differentialBits n
+
+-- The label of word w but for its parity bit.
+abbrev pub precoded : Numbers → ℕ → ℕ → ℕ
+precoded n V w = put (turnsBy (step n)) (labelRows n) (risen n V w) (placed w)
+
+-- The label that is sent for word w in trellis state S: z0 makes the parity even.
+abbrev pub labelOf : Numbers → ℕ → ℕ → ℕ → ℕ
+labelOf n S V w = precoded n V w + bitXor S (syndrome (polynomials n) (precoded n V w)) % 2
