@@ -1,9 +1,57 @@
 // The mapper: from a label to the phases of its places.
 ghost use mathlib.Core.Path.{_≡_};
+ghost use mathlib.Core.Bool.{cond};
 ghost use mathlib.Core.List.{[], _∷_};
-ghost use Prim.Native.Nat.{_*_, _<_};
-ghost use Rattle.trellis.specs.Mapper.{picked, entryAt};
+ghost use Prim.Native.Nat.{_+_, _*_, _%_, _<_};
+ghost use lib.Dec.{ltb};
+ghost use Rattle.code.specs.Units.{phaseNumber, phaseWithin};
+ghost use Rattle.trellis.specs.Mapper.{picked, entryAt, symbolOf, Distinct, Turns};
+use crate::record::Code;
+use crate::units::Label;
+use crate::units::Phase;
+use trellis::Numbers;
 use trellis::Row;
+
+impl Code {
+    // The phases of the four places; an unused place holds 0. Label bits past the code's label width pick nothing.
+    // No two labels of the code have the same phases, and a label turns its phases with its turning number.
+    pub fn symbol(self, label: Label) -> [u8; 4]
+        ensures value { λ r. ⌜ r ≡ symbolOf (self .numbers) (label .0) ⌝ }
+        ensures distinct { λ _. ⌜ Distinct (self .numbers) ⌝ }
+        ensures turns { λ _. ⌜ Turns (self .numbers) ⌝ }
+    {
+        let row = joined(self.rows(), label.0);
+        [
+            phase_at(self.numbers, row.turn, row.pattern[0], 0),
+            phase_at(self.numbers, row.turn, row.pattern[1], 1),
+            phase_at(self.numbers, row.turn, row.pattern[2], 2),
+            phase_at(self.numbers, row.turn, row.pattern[3], 3),
+        ]
+    }
+
+    // The phase of one place, or nothing past the last.
+    pub fn phase(self, label: Label, place: usize) -> Option<Phase>
+        ensures { λ r. ⌜ phaseNumber r ≡ phaseWithin (self .numbers) (label .0) place ⌝ }
+    {
+        if place >= self.numbers.places as usize {
+            return None;
+        }
+        let symbol = self.symbol(label);
+        Some(Phase(symbol[place]))
+    }
+}
+
+// The phase of one place, from the turning number and the pattern there.
+fn phase_at(numbers: Numbers, turn: u8, pattern: u8, place: u8) -> u8
+    requires { ⌜ 0 < numbers .phases ⌝ }
+    ensures { λ r. ⌜ r ≡ cond (ltb place (numbers .places)) ((turn + pattern) % numbers .phases) 0 ⌝ }
+{
+    if place < numbers.places {
+        ((turn as u16 + pattern as u16) % numbers.phases as u16) as u8
+    } else {
+        0
+    }
+}
 
 // The entry, if the label bit picks its row.
 fn picked_entry(bit: u16, entry: u8) -> u8

@@ -1,1 +1,4 @@
 pub mod Sets
+pub mod Gather
+pub mod MapperLaws
+pub mod Distinct
