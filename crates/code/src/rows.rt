@@ -3,6 +3,7 @@
 ghost use mathlib.Core.Path.{_≡_};
 ghost use Prim.Native.Nat.{_≤_};
 ghost use lib.ListN.{length};
+ghost use Rattle.trellis.specs.Numbers.{labelBits};
 ghost use Rattle.trellis.specs.Rows.{signalRows, labelRows};
 use crate::record::Code;
 use crate::step::phase_bits;
@@ -79,7 +80,10 @@ const FOUR_16: [Row; 16] = [
 impl Code {
     // The rows that the label bits z0, z1, .. pick.
     pub fn rows(self) -> &'static [Row]
-        ensures { λ r. ⌜ now r ≡ labelRows (self .numbers) ⌝ }
+        ensures value { λ r. ⌜ now r ≡ labelRows (self .numbers) ⌝ }
+        ensures bits { λ r. ⌜ length (now r) ≡ labelBits (self .numbers) ⌝ }
+        ensures least { λ r. ⌜ 2 ≤ length (now r) ⌝ }
+        ensures most { λ r. ⌜ length (now r) ≤ 16 ⌝ }
     {
         let all = signal_rows(self.numbers.places, phase_bits(self.numbers));
         &all[self.numbers.offset as usize..]

@@ -10,7 +10,9 @@ use trellis::Numbers;
 impl Code {
     // How many phases the carrier has to turn before the code can no longer tell.
     pub fn step(self) -> u8
-        ensures { λ r. ⌜ r ≡ step (self .numbers) ⌝ }
+        ensures value { λ r. ⌜ r ≡ step (self .numbers) ⌝ }
+        ensures least { λ r. ⌜ 1 ≤ r ⌝ }
+        ensures most { λ r. ⌜ r ≤ self .numbers .phases ⌝ }
     {
         1 << step_exponent(self.numbers)
     }

@@ -84,6 +84,9 @@ kinds n w =
       places = below-at 4 (λ x. small (entryAt x) (bitsOf (n .phases)) (labelRows n) && (ltb x (n .places) || silent (λ _. true) (entryAt x) (labelRows n))) (g .1);
     }
 
+pub label-length : (n : Numbers) → Within n → length (labelRows n) ≡ labelBits n
+label-length n w = kinds n w .long
+
 picked-below : (entry : Row → ℕ) (k : ℕ) (rs : List Row) → small entry k rs ≡ true → (z : ℕ) → picked entry rs z < 2 ^ k
 picked-below entry k [] s z = pow-pos k
 picked-below entry k (r ∷ rs) s z =

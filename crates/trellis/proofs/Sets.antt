@@ -11,7 +11,7 @@ use Rattle.trellis.specs.Limits.{unless, isPlaces, isPhases, isChecked, isMemo
 use Rattle.trellis.specs.Numbers.{wordBits}
 
 -- no fault at a column, nor at those after it
-unless-none : (within : Bool) (column rest : ℕ) → 0 < column → unless within column rest ≡ 0 → (within ≡ true) × (rest ≡ 0)
+pub unless-none : (within : Bool) (column rest : ℕ) → 0 < column → unless within column rest ≡ 0 → (within ≡ true) × (rest ≡ 0)
 unless-none true column rest some e = (refl, e)
 unless-none false column rest some e = absurd (omega arith)
 

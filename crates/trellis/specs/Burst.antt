@@ -1,11 +1,11 @@
 -- Whole bursts: the labels of a list of data words.
 use mathlib.Core.List.{List, [], _∷_}
 use mathlib.Core.Path.{_≡_}
-use Prim.Native.Nat.{ℕ, _/_, _%_, _^_, _<_}
+use Prim.Native.Nat.{ℕ, _/_, _^_, _<_}
 use lib.ListN.{drop}
 use Rattle.trellis.specs.Label.{Agree, turnsBy}
 use Rattle.trellis.specs.declared.Numbers.{Numbers}
-use Rattle.trellis.specs.Numbers.{labelBits, wordBits, polynomials}
+use Rattle.trellis.specs.Numbers.{labelBits, polynomials}
 use Rattle.trellis.specs.Parity.{nextState}
 use Rattle.trellis.specs.Path.{Leads}
 use Rattle.trellis.specs.Precoder.{differential, labelOf, placed, risen}
@@ -16,11 +16,6 @@ use Rattle.trellis.specs.Step.{step}
 abbrev pub labelsFrom : Numbers → ℕ → ℕ → List ℕ → List ℕ
 labelsFrom n S V [] = []
 labelsFrom n S V (w ∷ ws) = labelOf n S V w ∷ labelsFrom n (nextState (polynomials n) S (labelOf n S V w)) (risen n V w) ws
-
--- Each word fits the code.
-abbrev pub Words : Numbers → List ℕ → Type 0
-Words n [] = Unit {0}
-Words n (w ∷ ws) = (w < 2 ^ wordBits n) × Words n ws
 
 -- One label for each word, with the word's bits outside the parity bit and the differential bits.
 abbrev pub Carry : Numbers → List ℕ → List ℕ → Type 0
@@ -44,4 +39,4 @@ pub record Burst (n : Numbers) (ws zs : List ℕ) : Type 0 where
 
 -- The labels that are sent are a burst of the words, and there is no other.
 abbrev pub BurstLaw : Numbers → Type 0
-BurstLaw n = (ws : List ℕ) → Words n ws → Burst n ws (labelsFrom n 0 0 ws) × ((zs : List ℕ) → Burst n ws zs → zs ≡ labelsFrom n 0 0 ws)
+BurstLaw n = (ws : List ℕ) → Burst n ws (labelsFrom n 0 0 ws) × ((zs : List ℕ) → Burst n ws zs → zs ≡ labelsFrom n 0 0 ws)

@@ -1,4 +1,5 @@
 -- The precoder: from a data word to a label.
+use mathlib.Core.List.{List}
 use Prim.Native.Nat.{ℕ, _+_, _*_, _%_, _^_}
 use lib.Bits.{bitXor}
 use Rattle.trellis.specs.Label.{gather, put, turnsBy}
@@ -20,10 +21,10 @@ placed w = 2 * w
 abbrev pub risen : Numbers → ℕ → ℕ → ℕ
 risen n V w = (V + differential n (placed w)) % 2 ^ differentialBits n
 
--- The label of word w but for its parity bit.
-abbrev pub precoded : Numbers → ℕ → ℕ → ℕ
-precoded n V w = put (turnsBy (step n)) (labelRows n) (risen n V w) (placed w)
+-- A number x, whose lowest bit is 0, with the parity bit z0 that makes the exclusive or of state S and its syndrome even.
+abbrev pub withParity : List ℕ → ℕ → ℕ → ℕ
+withParity hs S x = x + bitXor S (syndrome hs x) % 2
 
--- The label that is sent for word w in trellis state S: z0 makes the parity even.
+-- The label that is sent for word w in trellis state S: the word with the new V at the differential places, and z0.
 abbrev pub labelOf : Numbers → ℕ → ℕ → ℕ → ℕ
-labelOf n S V w = precoded n V w + bitXor S (syndrome (polynomials n) (precoded n V w)) % 2
+labelOf n S V w = withParity (polynomials n) S (put (turnsBy (step n)) (labelRows n) (risen n V w) (placed w))

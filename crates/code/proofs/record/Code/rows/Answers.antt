@@ -6,6 +6,7 @@ use lib.ListN.{length, drop}
 use borrow.Author.Needs.{needs}
 use Rattle.std.proofs.shelf.Lists.{take-rest}
 use Rattle.std.proofs.shelf.Tests.{cases-lt}
+use Rattle.trellis.proofs.BurstLaws.{sends}
 use Rattle.trellis.proofs.Sets.{within, places-bound}
 use Rattle.trellis.specs.Rows.{signalRows}
 use Rattle.code.proofs.record.Code.rows.Needs as need
@@ -23,5 +24,10 @@ part-result-start c =
 
 pub returns : need.returns
 returns c =
-    take-rest (c .signal-rows-all .result .now) (c .args .self .numbers .offset)
-    ∙ ap (drop (c .args .self .numbers .offset)) (c .signal-rows-all .ensures .value ∙ ap (signalRows (c .args .self .numbers .places)) (c .phase-bits .ensures .value))
+    let n = c .args .self .numbers in
+    let s = sends n (c .args .self .limits) (c .args .self .polynomials) (c .args .self .parity) in
+    let is = take-rest (c .signal-rows-all .result .now) (n .offset) ∙ ap (drop (n .offset)) (c .signal-rows-all .ensures .value ∙ ap (signalRows (n .places)) (c .phase-bits .ensures .value)) in
+    let long = ap length is ∙ s .long in
+    let least = s .least in
+    let most = s .most in
+    record { value = is; bits = long; least = omega arith; most = omega arith }

@@ -21,8 +21,8 @@ returns c =
     let z = c .args .label .0 in
     let rows = c .rows .result .now in
     let told = c .joined-row .ensures in
-    let p0 = phase-is n (c .args .self .limits) rows (c .rows .ensures) z 0 _ _ _ (told .turn) (ap (λ (l : List ℕ). getD l 0 0) (told .pattern)) (c .phase-at .ensures) in
-    let p1 = phase-is n (c .args .self .limits) rows (c .rows .ensures) z 1 _ _ _ (told .turn) (ap (λ (l : List ℕ). getD l 1 0) (told .pattern)) (c .phase-at-2 .ensures) in
-    let p2 = phase-is n (c .args .self .limits) rows (c .rows .ensures) z 2 _ _ _ (told .turn) (ap (λ (l : List ℕ). getD l 2 0) (told .pattern)) (c .phase-at-3 .ensures) in
-    let p3 = phase-is n (c .args .self .limits) rows (c .rows .ensures) z 3 _ _ _ (told .turn) (ap (λ (l : List ℕ). getD l 3 0) (told .pattern)) (c .phase-at-4 .ensures) in
+    let p0 = phase-is n (c .args .self .limits) rows (c .rows .ensures .value) z 0 _ _ _ (told .turn) (ap (λ (l : List ℕ). getD l 0 0) (told .pattern)) (c .phase-at .ensures) in
+    let p1 = phase-is n (c .args .self .limits) rows (c .rows .ensures .value) z 1 _ _ _ (told .turn) (ap (λ (l : List ℕ). getD l 1 0) (told .pattern)) (c .phase-at-2 .ensures) in
+    let p2 = phase-is n (c .args .self .limits) rows (c .rows .ensures .value) z 2 _ _ _ (told .turn) (ap (λ (l : List ℕ). getD l 2 0) (told .pattern)) (c .phase-at-3 .ensures) in
+    let p3 = phase-is n (c .args .self .limits) rows (c .rows .ensures .value) z 3 _ _ _ (told .turn) (ap (λ (l : List ℕ). getD l 3 0) (told .pattern)) (c .phase-at-4 .ensures) in
     record { value = cc (p0, p1, p2, p3); distinct = distinct n w; turns = turns n w }

@@ -1,0 +1,3 @@
+mod Loops
+mod Fits
+mod Sent
