@@ -1,6 +1,7 @@
 -- The loop that joins the picked rows.
 use mathlib.Core.Bool.{cond}
 use mathlib.Core.List.{List, [], _∷_}
+use mathlib.Core.Logic.{⊎-elim}
 use mathlib.Core.Path.{_≡_, refl, _∙_, ap, sym}
 use Prim.Native.Nat.{ℕ, zero, suc, _+_, _*_, _/_, _%_, _<_, _≤_}
 use native.Mathlib.Omega.{arith}
@@ -8,13 +9,17 @@ use lib.Bits.{bitXor, xor-assoc, xor-zero-l, xor-zero-r}
 use lib.Dec.{ltb}
 use lib.ListN.{length, getD, drop}
 use Rattle.std.proofs.shelf.Lists.{at-drop-more, at-drop-all}
+use Rattle.std.proofs.shelf.Tests.{cases-lt, cond-false, le-ltb}
+use Rattle.std.specs.declared.option.Option.{Option}
+use Rattle.std.specs.declared.option.Option.the-variants.{None, Some}
+use Rattle.code.specs.Units.{phaseWithin}
 use Rattle.trellis.specs.declared.Row.{Row}
 use Rattle.trellis.specs.declared.Numbers.{Numbers}
 use Rattle.trellis.specs.Limits.{limitFault}
 use Rattle.trellis.specs.Mapper.{picked, entryAt, patterns, phaseAt, symbolOf, turningNumber}
 use Rattle.trellis.specs.Rows.{labelRows}
 use Rattle.trellis.proofs.MapperLaws.{turn-picked}
-use Rattle.trellis.proofs.Sets.{within}
+use Rattle.trellis.proofs.Sets.{Within, within, places-bound}
 
 -- What is joined so far and what is left make the whole.
 abbrev pub Left : (Row → ℕ) → List Row → ℕ → ℕ → ℕ → ℕ → Type 0
@@ -47,3 +52,12 @@ symbol-at n z (suc zero) h = refl
 symbol-at n z (suc (suc zero)) h = refl
 symbol-at n z (suc (suc (suc zero))) h = refl
 symbol-at n z (suc (suc (suc (suc a)))) h = absurd (omega arith)
+
+-- A used place has its phase, and any other none.
+pub used-phase : (n : Numbers) → Within n → (z a : ℕ) → cond (ltb a (n .places)) (Some (getD (symbolOf n z) a 0)) None ≡ phaseWithin n z a
+used-phase n w z a =
+    let few = places-bound n w in
+    ⊎-elim
+    (λ (h : a < n .places). ap (λ (x : ℕ). let r : Option ℕ = cond (ltb a (n .places)) (Some x) None in r) (symbol-at n z a (omega arith)))
+    (λ (h : n .places ≤ a). cond-false (ltb a (n .places)) _ _ (le-ltb _ _ h) ∙ sym (cond-false (ltb a (n .places)) _ _ (le-ltb _ _ h)))
+    (cases-lt a (n .places))

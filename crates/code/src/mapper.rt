@@ -2,8 +2,10 @@
 ghost use mathlib.Core.Path.{_≡_};
 ghost use mathlib.Core.Bool.{cond};
 ghost use mathlib.Core.List.{[], _∷_};
-ghost use Prim.Native.Nat.{_+_, _*_, _%_, _<_};
+ghost use Prim.Native.Nat.{_+_, _*_, _%_, _<_, _≤_};
 ghost use lib.Dec.{ltb};
+ghost use lib.ListN.{getD};
+ghost use Rattle.std.specs.declared.option.Option.the-variants.{None, Some};
 ghost use Rattle.code.specs.Units.{phaseNumber, phaseWithin};
 ghost use Rattle.trellis.specs.Mapper.{picked, entryAt, symbolOf, Distinct, Turns};
 use crate::record::Code;
@@ -33,11 +35,19 @@ impl Code {
     pub fn phase(self, label: Label, place: usize) -> Option<Phase>
         ensures { λ r. ⌜ phaseNumber r ≡ phaseWithin (self .numbers) (label .0) place ⌝ }
     {
-        if place >= self.numbers.places as usize {
-            return None;
-        }
-        let symbol = self.symbol(label);
+        used_place(self.symbol(label), self.numbers.places, place)
+    }
+}
+
+// The phase at a place of the symbol, if it is one of the first `places`.
+fn used_place(symbol: [u8; 4], places: u8, place: usize) -> Option<Phase>
+    requires { ⌜ places ≤ 4 ⌝ }
+    ensures { λ r. ⌜ phaseNumber r ≡ cond (ltb place places) (Some (getD symbol place 0)) None ⌝ }
+{
+    if place < places as usize {
         Some(Phase(symbol[place]))
+    } else {
+        None
     }
 }
 

@@ -29,13 +29,7 @@ impl Quiet {
         ensures burst { λ _. ⌜ BurstLaw (code .numbers) ⌝ }
     {
         let Quiet { sealed: _ } = self;
-        let sending = Sending {
-            code,
-            state: State(0),
-            differential: 0,
-            sent: 0,
-        };
-        (sending, code.symbol(Label(0)))
+        (opened(code), code.symbol(Label(0)))
     }
 
     // Puts a quiet sender away.
@@ -76,5 +70,17 @@ impl Sending {
             sent,
         } = self;
         (Quiet { sealed: () }, sent as usize)
+    }
+}
+
+// A burst with no word sent.
+fn opened(code: Code) -> Sending
+    ensures { λ r. ⌜ standing r ≡ begun (code .numbers) ⌝ }
+{
+    Sending {
+        code,
+        state: State(0),
+        differential: 0,
+        sent: 0,
     }
 }
