@@ -59,6 +59,13 @@ impl Sending {
         Ok(code.symbol(label))
     }
 
+    // The code of the burst.
+    pub fn code(&self) -> Code
+        ensures { λ r. ⌜ r .numbers ≡ standing (now (self .entry)) .numbers ⌝ }
+    {
+        self.code
+    }
+
     // Closes the burst, and tells how many words were sent.
     pub fn end(self) -> (Quiet, usize)
         ensures { λ r. ⌜ r .1 ≡ standing self .sent ⌝ }
