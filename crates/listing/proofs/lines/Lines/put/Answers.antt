@@ -1,0 +1,12 @@
+use borrow.Author.Needs.{needs}
+use mathlib.Core.Path.{refl}
+use native.Mathlib.Omega.{arith}
+use Rattle.std.proofs.shelf.Lists.{take-more-set}
+use Rattle.listing.proofs.lines.Lines.put.Needs as need
+
+pub returns : need.returns
+returns c = record {
+  text = take-more-set (c .args .self .now .bytes) (c .args .self .now .len) (c .args .byte) (search needs);
+  size = omega arith;
+  same = refl;
+}
