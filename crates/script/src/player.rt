@@ -71,7 +71,7 @@ fn send(sender: Sender, word: u16) -> (Sender, Answer)
     match sender {
         Sender::Quiet(quiet) => (Sender::Quiet(quiet), Answer::Quiet),
         Sender::Sending(mut sending) => {
-            let places = sending.code().numbers.places;
+            let places = sending.places();
             match sending.send(Word(word)) {
                 Ok(phases) => (Sender::Sending(sending), Answer::Phases { phases, places }),
                 Err(refusal) => (Sender::Sending(sending), Answer::Refused(refusal.number())),

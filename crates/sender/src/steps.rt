@@ -59,11 +59,11 @@ impl Sending {
         Ok(code.symbol(label))
     }
 
-    // The code of the burst.
-    pub fn code(&self) -> Code
-        ensures { λ r. ⌜ r .numbers ≡ standing (now (self .entry)) .numbers ⌝ }
+    // How many places of its symbols are used.
+    pub fn places(&self) -> u8
+        ensures { λ r. ⌜ r ≡ standing (now (self .entry)) .numbers .places ⌝ }
     {
-        self.code
+        self.code.numbers.places
     }
 
     // Closes the burst, and tells how many words were sent.
