@@ -3,6 +3,7 @@ use Prim.Native.Nat.{ℕ}
 use Rattle.book.specs.declared.fault.Fault.{Fault}
 use Rattle.book.specs.declared.fault.Fault.the-variants.{Shape, Names, Limit, Polynomial, Parity, TooManyCodes, TooLong}
 
+-- The refusal number.
 abbrev pub faultNumber : Fault → ℕ
 faultNumber (Shape line column) = 1
 faultNumber Names = 2

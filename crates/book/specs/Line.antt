@@ -17,6 +17,7 @@ use Rattle.book.specs.Column.{column, lineEnd}
 use Rattle.book.specs.Reading.{Reading, next}
 use Rattle.book.specs.Value.{small, polynomial}
 
+-- Numbers as they are, a fault as it is, and the numbers of a code.
 abbrev pub itself : Numbers → Numbers
 itself n = n
 

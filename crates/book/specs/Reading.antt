@@ -6,6 +6,7 @@ use Rattle.std.specs.declared.result.Result.{Result}
 use Rattle.std.specs.declared.result.Result.the-variants.{Ok, Err}
 use Rattle.book.specs.declared.fault.Fault.{Fault}
 
+-- What was read, with the rest of the text.
 abbrev pub Reading : Type 0 → Type 0
 Reading X = Result (X × List ℕ) Fault
 

@@ -4,9 +4,11 @@ use Rattle.book.specs.declared.token.Token.{Token}
 use Rattle.book.specs.declared.token.Token.the-variants.{Decimal, Octal, Dash, LineEnd}
 use Rattle.book.specs.Column.{Span, Column, decimal, octal, dash, end}
 
+-- What a part lends, and where it stands.
 abbrev pub spanOf : Part → Span
 spanOf p = record { bytes = p .bytes .now; line = p .line; column = p .column }
 
+-- What a token found.
 abbrev pub columnOf : Token → Column
 columnOf (Decimal p) = decimal (spanOf p)
 columnOf (Octal p) = octal (spanOf p)

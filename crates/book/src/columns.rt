@@ -35,6 +35,7 @@ pub(crate) fn line_end<'a>(text: &'a [u8], line: u8) -> Result<(Token<'a>, &'a [
     Ok((Token::LineEnd(part), rest))
 }
 
+// What stands in the column of this number.
 fn content<'a>(text: &'a [u8], line: u8, column: u8) -> Result<(Token<'a>, &'a [u8]), Fault>
     ensures { λ r. ⌜ seen columnOf r ≡ content line column (now (text .entry)) ⌝ }
 {

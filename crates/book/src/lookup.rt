@@ -4,7 +4,6 @@ ghost use Prim.Native.Nat.{_≤_};
 ghost use lib.ListN.{length};
 ghost use Rattle.std.specs.Options.{mapped};
 ghost use Rattle.book.specs.Book.{codesOf, entryOf};
-ghost use Rattle.book.specs.Codes.{firstCodes};
 ghost use Rattle.book.specs.Line.{numbersIn};
 use crate::record::Book;
 use code::Code;
@@ -21,16 +20,15 @@ impl Book {
     pub fn get(&self, entry: usize) -> Option<Code>
         ensures { λ r. ⌜ mapped numbersIn r ≡ entryOf (codesOf (now (self .entry))) entry ⌝ }
     {
-        lookup(&self.codes, self.count, entry)
+        lookup(self, entry)
     }
 }
 
-fn lookup(codes: &[Code; 32], count: usize, entry: usize) -> Option<Code>
-    requires { ⌜ count ≤ 32 ⌝ }
-    ensures { λ r. ⌜ mapped numbersIn r ≡ entryOf (firstCodes count (now (codes .entry))) entry ⌝ }
+fn lookup(book: &Book, entry: usize) -> Option<Code>
+    ensures { λ r. ⌜ mapped numbersIn r ≡ entryOf (codesOf (now (book .entry))) entry ⌝ }
 {
-    if entry < count {
-        Some(codes[entry])
+    if entry < book.count {
+        Some(book.codes[entry])
     } else {
         None
     }

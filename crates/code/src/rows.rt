@@ -11,70 +11,214 @@ use trellis::Row;
 
 // One place. A smaller number of phases has the first rows.
 const ONE: [Row; 4] = [
-    Row { turn: 1, pattern: [0; 4] },
-    Row { turn: 2, pattern: [0; 4] },
-    Row { turn: 4, pattern: [0; 4] },
-    Row { turn: 8, pattern: [0; 4] },
+    Row {
+        turn: 1,
+        pattern: [0; 4],
+    },
+    Row {
+        turn: 2,
+        pattern: [0; 4],
+    },
+    Row {
+        turn: 4,
+        pattern: [0; 4],
+    },
+    Row {
+        turn: 8,
+        pattern: [0; 4],
+    },
 ];
 
 // Two places. A smaller number of phases has the first rows.
 const TWO: [Row; 8] = [
-    Row { turn: 0, pattern: [0, 1, 0, 0] },
-    Row { turn: 1, pattern: [0; 4] },
-    Row { turn: 0, pattern: [0, 2, 0, 0] },
-    Row { turn: 2, pattern: [0; 4] },
-    Row { turn: 0, pattern: [0, 4, 0, 0] },
-    Row { turn: 4, pattern: [0; 4] },
-    Row { turn: 0, pattern: [0, 8, 0, 0] },
-    Row { turn: 8, pattern: [0; 4] },
+    Row {
+        turn: 0,
+        pattern: [0, 1, 0, 0],
+    },
+    Row {
+        turn: 1,
+        pattern: [0; 4],
+    },
+    Row {
+        turn: 0,
+        pattern: [0, 2, 0, 0],
+    },
+    Row {
+        turn: 2,
+        pattern: [0; 4],
+    },
+    Row {
+        turn: 0,
+        pattern: [0, 4, 0, 0],
+    },
+    Row {
+        turn: 4,
+        pattern: [0; 4],
+    },
+    Row {
+        turn: 0,
+        pattern: [0, 8, 0, 0],
+    },
+    Row {
+        turn: 8,
+        pattern: [0; 4],
+    },
 ];
 
 // Four places, 4 phases.
 const FOUR_4: [Row; 8] = [
-    Row { turn: 0, pattern: [0, 0, 0, 1] },
-    Row { turn: 0, pattern: [0, 0, 1, 1] },
-    Row { turn: 0, pattern: [0, 1, 0, 1] },
-    Row { turn: 0, pattern: [0, 0, 0, 2] },
-    Row { turn: 1, pattern: [0; 4] },
-    Row { turn: 0, pattern: [0, 0, 2, 2] },
-    Row { turn: 0, pattern: [0, 2, 0, 2] },
-    Row { turn: 2, pattern: [0; 4] },
+    Row {
+        turn: 0,
+        pattern: [0, 0, 0, 1],
+    },
+    Row {
+        turn: 0,
+        pattern: [0, 0, 1, 1],
+    },
+    Row {
+        turn: 0,
+        pattern: [0, 1, 0, 1],
+    },
+    Row {
+        turn: 0,
+        pattern: [0, 0, 0, 2],
+    },
+    Row {
+        turn: 1,
+        pattern: [0; 4],
+    },
+    Row {
+        turn: 0,
+        pattern: [0, 0, 2, 2],
+    },
+    Row {
+        turn: 0,
+        pattern: [0, 2, 0, 2],
+    },
+    Row {
+        turn: 2,
+        pattern: [0; 4],
+    },
 ];
 
 // Four places, 8 phases.
 const FOUR_8: [Row; 12] = [
-    Row { turn: 0, pattern: [0, 0, 0, 1] },
-    Row { turn: 0, pattern: [0, 0, 1, 1] },
-    Row { turn: 0, pattern: [0, 1, 0, 1] },
-    Row { turn: 0, pattern: [0, 0, 0, 2] },
-    Row { turn: 1, pattern: [0; 4] },
-    Row { turn: 0, pattern: [0, 0, 2, 2] },
-    Row { turn: 0, pattern: [0, 2, 0, 2] },
-    Row { turn: 0, pattern: [0, 0, 0, 4] },
-    Row { turn: 2, pattern: [0; 4] },
-    Row { turn: 0, pattern: [0, 0, 4, 4] },
-    Row { turn: 0, pattern: [0, 4, 0, 4] },
-    Row { turn: 4, pattern: [0; 4] },
+    Row {
+        turn: 0,
+        pattern: [0, 0, 0, 1],
+    },
+    Row {
+        turn: 0,
+        pattern: [0, 0, 1, 1],
+    },
+    Row {
+        turn: 0,
+        pattern: [0, 1, 0, 1],
+    },
+    Row {
+        turn: 0,
+        pattern: [0, 0, 0, 2],
+    },
+    Row {
+        turn: 1,
+        pattern: [0; 4],
+    },
+    Row {
+        turn: 0,
+        pattern: [0, 0, 2, 2],
+    },
+    Row {
+        turn: 0,
+        pattern: [0, 2, 0, 2],
+    },
+    Row {
+        turn: 0,
+        pattern: [0, 0, 0, 4],
+    },
+    Row {
+        turn: 2,
+        pattern: [0; 4],
+    },
+    Row {
+        turn: 0,
+        pattern: [0, 0, 4, 4],
+    },
+    Row {
+        turn: 0,
+        pattern: [0, 4, 0, 4],
+    },
+    Row {
+        turn: 4,
+        pattern: [0; 4],
+    },
 ];
 
 // Four places, 16 phases.
 const FOUR_16: [Row; 16] = [
-    Row { turn: 0, pattern: [0, 0, 0, 1] },
-    Row { turn: 0, pattern: [0, 0, 1, 1] },
-    Row { turn: 0, pattern: [0, 1, 0, 1] },
-    Row { turn: 0, pattern: [0, 0, 0, 2] },
-    Row { turn: 1, pattern: [0; 4] },
-    Row { turn: 0, pattern: [0, 0, 2, 2] },
-    Row { turn: 0, pattern: [0, 2, 0, 2] },
-    Row { turn: 0, pattern: [0, 0, 0, 4] },
-    Row { turn: 2, pattern: [0; 4] },
-    Row { turn: 0, pattern: [0, 0, 4, 4] },
-    Row { turn: 0, pattern: [0, 4, 0, 4] },
-    Row { turn: 0, pattern: [0, 0, 0, 8] },
-    Row { turn: 4, pattern: [0; 4] },
-    Row { turn: 0, pattern: [0, 0, 8, 8] },
-    Row { turn: 0, pattern: [0, 8, 0, 8] },
-    Row { turn: 8, pattern: [0; 4] },
+    Row {
+        turn: 0,
+        pattern: [0, 0, 0, 1],
+    },
+    Row {
+        turn: 0,
+        pattern: [0, 0, 1, 1],
+    },
+    Row {
+        turn: 0,
+        pattern: [0, 1, 0, 1],
+    },
+    Row {
+        turn: 0,
+        pattern: [0, 0, 0, 2],
+    },
+    Row {
+        turn: 1,
+        pattern: [0; 4],
+    },
+    Row {
+        turn: 0,
+        pattern: [0, 0, 2, 2],
+    },
+    Row {
+        turn: 0,
+        pattern: [0, 2, 0, 2],
+    },
+    Row {
+        turn: 0,
+        pattern: [0, 0, 0, 4],
+    },
+    Row {
+        turn: 2,
+        pattern: [0; 4],
+    },
+    Row {
+        turn: 0,
+        pattern: [0, 0, 4, 4],
+    },
+    Row {
+        turn: 0,
+        pattern: [0, 4, 0, 4],
+    },
+    Row {
+        turn: 0,
+        pattern: [0, 0, 0, 8],
+    },
+    Row {
+        turn: 4,
+        pattern: [0; 4],
+    },
+    Row {
+        turn: 0,
+        pattern: [0, 0, 8, 8],
+    },
+    Row {
+        turn: 0,
+        pattern: [0, 8, 0, 8],
+    },
+    Row {
+        turn: 8,
+        pattern: [0; 4],
+    },
 ];
 
 impl Code {

@@ -22,6 +22,7 @@ stepRow n =
     cell (n .places) 32 ++ (cell (n .phases) 32 ++ (cell (n .offset) 32 ++ (cell (n .checked) 32 ++ (cell (n .memory) 32 ++
     cell (step n) 10))))
 
+-- The heading and a row for each code.
 abbrev pub stepLines : List Numbers → List ℕ
 stepLines ns = codes "l m q c v step" ++ (10 ∷ joined stepRow ns)
 
@@ -29,9 +30,11 @@ stepLines ns = codes "l m q c v step" ++ (10 ∷ joined stepRow ns)
 unfoldable pub faultRow : Fault → List ℕ
 faultRow fault = cell (faultLine fault) 32 ++ (cell (faultColumn fault) 32 ++ cell (faultNumber fault) 10)
 
+-- The heading and the fault's row.
 abbrev pub faultLines : Fault → List ℕ
 faultLines fault = codes "line column number" ++ (10 ∷ faultRow fault)
 
+-- The lines of what a text gave.
 abbrev pub linesOf : Result (List Numbers) Fault → List ℕ
 linesOf (Ok ns) = stepLines ns
 linesOf (Err fault) = faultLines fault

@@ -37,10 +37,11 @@ module _ (marked : Row → Bool) (rows : List Row) (i : ℕ) (d : Row) (within :
       let here = at-drop-more (λ rs. gather marked rs rest) rows i d within ∙ gather-marked marked (getD rows i d) (drop (i + 1) rows) rest m in
       let up = carry-up number weight (rest % 2) (gather marked (drop (i + 1) rows) (rest / 2)) in
       let least = bit-weight weight (rest % 2) (bit-below rest) in
-      let twice = more in
-      ( ap (λ (k : ℕ). number + k + weight * 2 * gather marked (drop (i + 1) rows) (rest / 2)) e ∙ sym up ∙ ap (λ (k : ℕ). number + weight * k) (sym here) ∙ h .0,
+      let twice = more in (
+        ap (λ (k : ℕ). number + k + weight * 2 * gather marked (drop (i + 1) rows) (rest / 2)) e ∙ sym up ∙ ap (λ (k : ℕ). number + weight * k) (sym here) ∙ h .0,
         omega arith,
-        omega arith )
+        omega arith,
+      )
 
   pub gathered-other : (rest weight number label : ℕ) → marked (getD rows i d) ≡ false → Gathered marked rows i rest weight number label → Gathered marked rows (i + 1) (rest / 2) weight number label
   gathered-other rest weight number label m h =
@@ -53,20 +54,22 @@ module _ (marked : Row → Bool) (rows : List Row) (i : ℕ) (d : Row) (within :
       let here = at-drop-more (λ rs. put marked rs digits rest) rows i d within ∙ put-marked marked (getD rows i d) (drop (i + 1) rows) digits rest m in
       let up = carry-up made weight (digits % 2) (put marked (drop (i + 1) rows) (digits / 2) (rest / 2)) in
       let least = bit-weight weight (digits % 2) (bit-below digits) in
-      let twice = more in
-      ( ap (λ (k : ℕ). made + k + weight * 2 * put marked (drop (i + 1) rows) (digits / 2) (rest / 2)) e ∙ sym up ∙ ap (λ (k : ℕ). made + weight * k) (sym here) ∙ h .0,
+      let twice = more in (
+        ap (λ (k : ℕ). made + k + weight * 2 * put marked (drop (i + 1) rows) (digits / 2) (rest / 2)) e ∙ sym up ∙ ap (λ (k : ℕ). made + weight * k) (sym here) ∙ h .0,
         omega arith,
-        omega arith )
+        omega arith,
+      )
 
   pub replaced-other : (digits rest weight made number label step : ℕ) → marked (getD rows i d) ≡ false → step ≡ weight * (rest % 2) → Replaced marked rows i digits rest weight made number label → Replaced marked rows (i + 1) digits (rest / 2) (weight * 2) (made + step) number label
   replaced-other digits rest weight made number label step m e h =
       let here = at-drop-more (λ rs. put marked rs digits rest) rows i d within ∙ put-other marked (getD rows i d) (drop (i + 1) rows) digits rest m in
       let up = carry-up made weight (rest % 2) (put marked (drop (i + 1) rows) digits (rest / 2)) in
       let least = bit-weight weight (rest % 2) (bit-below rest) in
-      let twice = more in
-      ( ap (λ (k : ℕ). made + k + weight * 2 * put marked (drop (i + 1) rows) digits (rest / 2)) e ∙ sym up ∙ ap (λ (k : ℕ). made + weight * k) (sym here) ∙ h .0,
+      let twice = more in (
+        ap (λ (k : ℕ). made + k + weight * 2 * put marked (drop (i + 1) rows) digits (rest / 2)) e ∙ sym up ∙ ap (λ (k : ℕ). made + weight * k) (sym here) ∙ h .0,
         omega arith,
-        omega arith )
+        omega arith,
+      )
 
 pub gathered-all : (marked : Row → Bool) (rows : List Row) (i rest weight number label : ℕ) → length rows ≤ i → Gathered marked rows i rest weight number label → number ≡ gather marked rows label
 gathered-all marked rows i rest weight number label past h =

@@ -33,8 +33,8 @@ use Rattle.trellis.proofs.Sets.{Within, within, unless-none, everySet, at-set,
 abbrev differentialWell : ℕ → ℕ → ℕ → Bool
 differentialWell l m q =
     (leb 2 (bitsOf m * l - q) && leb (bitsOf m * l - q) 16) && below (suc (bitsOf m)) (λ d.
-        ((eqb (turningRow l (bitsOf m) 0 - q) 0 && eqb d 0) || headFree (turnsBy (2 ^ d)) (setRows l m q))
-        && (eqb (count (turnsBy (2 ^ d)) (setRows l m q)) (bitsOf m - d) && (eqb (m / 2 ^ d) (2 ^ (bitsOf m - d)) && (leb (2 ^ d) m && leb (2 ^ (bitsOf m - d)) 16))))
+    ((eqb (turningRow l (bitsOf m) 0 - q) 0 && eqb d 0) || headFree (turnsBy (2 ^ d)) (setRows l m q))
+    && (eqb (count (turnsBy (2 ^ d)) (setRows l m q)) (bitsOf m - d) && (eqb (m / 2 ^ d) (2 ^ (bitsOf m - d)) && (leb (2 ^ d) m && leb (2 ^ (bitsOf m - d)) 16))))
 
 turns-below : (n : Numbers) (c k : ℕ) → checkedTurns n c k ≤ k
 turns-below n c zero = omega arith
@@ -66,8 +66,8 @@ sends n limits polys parity =
     let sized = and-parts _ _ (at-set differentialWell refl n w) in
     let few = and-parts _ _ (sized .0) in
     let all = below-at (suc (phaseBits n)) (λ d.
-            ((eqb (turningRow (n .places) (phaseBits n) 0 - n .offset) 0 && eqb d 0) || headFree (turnsBy (2 ^ d)) (labelRows n))
-            && (eqb (count (turnsBy (2 ^ d)) (labelRows n)) (phaseBits n - d) && (eqb (n .phases / 2 ^ d) (2 ^ (phaseBits n - d)) && (leb (2 ^ d) (n .phases) && leb (2 ^ (phaseBits n - d)) 16)))) (sized .1) in
+    ((eqb (turningRow (n .places) (phaseBits n) 0 - n .offset) 0 && eqb d 0) || headFree (turnsBy (2 ^ d)) (labelRows n))
+    && (eqb (count (turnsBy (2 ^ d)) (labelRows n)) (phaseBits n - d) && (eqb (n .phases / 2 ^ d) (2 ^ (phaseBits n - d)) && (leb (2 ^ d) (n .phases) && leb (2 ^ (phaseBits n - d)) 16)))) (sized .1) in
     let bound : stepExponent n < suc (phaseBits n) = suc-le-suc (exponent-bound n) in
     let here = and-parts _ _ (all (stepExponent n) bound) in
     let there = and-parts _ _ (here .1) in
@@ -100,17 +100,19 @@ module _ (n : Numbers) (s : Sends n) where
 
   carry : (S V : ℕ) (ws : List ℕ) → Carry n ws (labelsFrom n S V ws)
   carry S V [] = tt
-  carry S V (w ∷ ws) =
-      ( subst (λ (k : ℕ). labelOf n S V w < 2 ^ k) (s .long) (one S V w .bound),
-        one S V w .agrees,
-        carry (nextState (polynomials n) S (labelOf n S V w)) (risen n V w) ws )
+  carry S V (w ∷ ws) = (
+    subst (λ (k : ℕ). labelOf n S V w < 2 ^ k) (s .long) (one S V w .bound),
+    one S V w .agrees,
+    carry (nextState (polynomials n) S (labelOf n S V w)) (risen n V w) ws,
+  )
 
   rises : (S V : ℕ) (ws : List ℕ) → Rises n V ws (labelsFrom n S V ws)
   rises S V [] = tt
   rises S V (w ∷ ws) =
-      let next = nextState (polynomials n) S (labelOf n S V w) in
-      ( rise S V w,
-        subst (λ (v : ℕ). Rises n v ws (labelsFrom n next (risen n V w) ws)) (sym (rise S V w)) (rises next (risen n V w) ws) )
+      let next = nextState (polynomials n) S (labelOf n S V w) in (
+        rise S V w,
+        subst (λ (v : ℕ). Rises n v ws (labelsFrom n next (risen n V w) ws)) (sym (rise S V w)) (rises next (risen n V w) ws),
+      )
 
   -- no other labels do
   sole : (S V : ℕ) (ws zs : List ℕ) (E : ℕ) → Leads (polynomials n) S zs E → Carry n ws zs → Rises n V ws zs → zs ≡ labelsFrom n S V ws
@@ -119,12 +121,13 @@ module _ (n : Numbers) (s : Sends n) where
   sole S V (w ∷ ws) [] E p c r = absurd c
   sole S V (w ∷ ws) (z ∷ zs) E p c r =
       let here : z ≡ labelOf n S V w =
-              carries-sole (n .h0) (drop 1 (polynomials n)) (s .odd) (turnsBy (step n)) (labelRows n) S (risen n V w) w z (s .free)
-              (subst (λ (k : ℕ). z < 2 ^ k) (sym (s .long)) (c .0)) (p .0) (r .0) (c .1) in
+      carries-sole (n .h0) (drop 1 (polynomials n)) (s .odd) (turnsBy (step n)) (labelRows n) S (risen n V w) w z (s .free)
+      (subst (λ (k : ℕ). z < 2 ^ k) (sym (s .long)) (c .0)) (p .0) (r .0) (c .1) in
       let rest = sole (nextState (polynomials n) S z) (differential n z) ws zs E (p .1) (c .2) (r .1) in
       (λ i. here i ∷ rest i) ∙ (λ i. labelOf n S V w ∷ labelsFrom n (nextState (polynomials n) S (here i)) (r .0 i) ws)
 
 pub burst-law : (n : Numbers) → Sends n → BurstLaw n
-burst-law n s ws =
-    ( record { path = path n s 0 0 ws; carry = carry n s 0 0 ws; rises = rises n s 0 0 ws },
-      λ zs b. sole n s 0 0 ws zs (b .path .0) (b .path .1) (b .carry) (b .rises) )
+burst-law n s ws = (
+  record { path = path n s 0 0 ws; carry = carry n s 0 0 ws; rises = rises n s 0 0 ws },
+  λ zs b. sole n s 0 0 ws zs (b .path .0) (b .path .1) (b .carry) (b .rises),
+)

@@ -109,18 +109,18 @@ cancel : (t a b m : ℕ) → t < m → a < m → b < m → (t + a) % m ≡ (t + 
 cancel t a b m ht ha hb e =
     ⊎-elim
     (λ (l : t + a < m). ⊎-elim
-        (λ (k : t + b < m). omega (arith, sym (mod-eq-of-lt l) ∙ e ∙ mod-eq-of-lt k))
-        (λ (k : m ≤ t + b). omega (arith, sym (mod-eq-of-lt l) ∙ e ∙ wrap (t + b) m k (omega arith))) (cases-lt (t + b) m))
+    (λ (k : t + b < m). omega (arith, sym (mod-eq-of-lt l) ∙ e ∙ mod-eq-of-lt k))
+    (λ (k : m ≤ t + b). omega (arith, sym (mod-eq-of-lt l) ∙ e ∙ wrap (t + b) m k (omega arith))) (cases-lt (t + b) m))
     (λ (l : m ≤ t + a). ⊎-elim
-        (λ (k : t + b < m). omega (arith, sym (wrap (t + a) m l (omega arith)) ∙ e ∙ mod-eq-of-lt k))
-        (λ (k : m ≤ t + b). omega (arith, sym (wrap (t + a) m l (omega arith)) ∙ e ∙ wrap (t + b) m k (omega arith))) (cases-lt (t + b) m))
+    (λ (k : t + b < m). omega (arith, sym (wrap (t + a) m l (omega arith)) ∙ e ∙ mod-eq-of-lt k))
+    (λ (k : m ≤ t + b). omega (arith, sym (wrap (t + a) m l (omega arith)) ∙ e ∙ wrap (t + b) m k (omega arith))) (cases-lt (t + b) m))
     (cases-lt (t + a) m)
 
 -- the number of a kind of rows
 same-kind : (entry : Row → ℕ) (rs : List Row) → levelled entry rs ≡ true → (y z : ℕ) → picked entry rs y ≡ picked entry rs z → gather (has entry) rs y ≡ gather (has entry) rs z
 same-kind entry rs l y z e =
     let by : (j : ℕ) → rising (has entry) entry j rs ≡ true → gather (has entry) rs y ≡ gather (has entry) rs z =
-            λ j r. eq-of-mul-eq-mul-left (2 ^ j) (pow-pos j) _ _ (sym (picked-rising (has entry) entry j rs r y) ∙ e ∙ picked-rising (has entry) entry j rs r z) in
+    λ j r. eq-of-mul-eq-mul-left (2 ^ j) (pow-pos j) _ _ (sym (picked-rising (has entry) entry j rs r y) ∙ e ∙ picked-rising (has entry) entry j rs r z) in
     ⊎-elim (by 0) (by 1) (or-cases _ _ l)
 
 same-bits : (rs : List Row) → covered rs ≡ true → (y z : ℕ) → y < 2 ^ length rs → z < 2 ^ length rs → gather (turnsBy 1) rs y ≡ gather (turnsBy 1) rs z → gather (has entry1) rs y ≡ gather (has entry1) rs z → gather (has entry2) rs y ≡ gather (has entry2) rs z → gather (has entry3) rs y ≡ gather (has entry3) rs z → y ≡ z
@@ -149,9 +149,9 @@ module _ (n : Numbers) (w : Within n) where
       let under : (x : ℕ) → patterns n x a < n .phases = λ x. subst (λ (m : ℕ). patterns n x a < m) (kinds n w .power) (picked-below (entryAt a) (bitsOf (n .phases)) (labelRows n) (both .0) x) in
       ⊎-elim
       (λ u.
-          let used = ltb-true a (n .places) u in
-          cancel (turningNumber n z) _ _ (n .phases) (turning-below n w z) (under y) (under z)
-          (ap (λ (x : ℕ). (x + patterns n y a) % n .phases) (sym t) ∙ sym (phase-used n y a used) ∙ e ∙ phase-used n z a used))
+      let used = ltb-true a (n .places) u in
+      cancel (turningNumber n z) _ _ (n .phases) (turning-below n w z) (under y) (under z)
+      (ap (λ (x : ℕ). (x + patterns n y a) % n .phases) (sym t) ∙ sym (phase-used n y a used) ∙ e ∙ phase-used n z a used))
       (λ s. picked-none (entryAt a) (labelRows n) s y ∙ sym (picked-none (entryAt a) (labelRows n) s z))
       (or-cases _ _ (both .1))
 
@@ -165,7 +165,7 @@ module _ (n : Numbers) (w : Within n) where
       let p2 = same-patterns y z 2 T (omega arith) (at 2) in
       let p3 = same-patterns y z 3 T (omega arith) (at 3) in
       let split : (x : ℕ) → picked entry3 rs x ≡ bitXor (patterns n x 3) (bitXor (patterns n x 2) (patterns n x 1)) =
-              λ x. picked-xor (entryAt 3) (λ r. bitXor (entryAt 2 r) (entryAt 1 r)) rs x ∙ ap (bitXor (patterns n x 3)) (picked-xor (entryAt 2) (entryAt 1) rs x) in
+      λ x. picked-xor (entryAt 3) (λ r. bitXor (entryAt 2 r) (entryAt 1 r)) rs x ∙ ap (bitXor (patterns n x 3)) (picked-xor (entryAt 2) (entryAt 1) rs x) in
       let third : picked entry3 rs y ≡ picked entry3 rs z = split y ∙ (λ i. bitXor (p3 i) (bitXor (p2 i) (p1 i))) ∙ sym (split z) in
       same-bits rs (k .cover) y z (subst (λ (x : ℕ). y < 2 ^ x) (sym (k .long)) hy) (subst (λ (x : ℕ). z < 2 ^ x) (sym (k .long)) hz)
       T (same-kind entry1 rs (k .first) y z p1) (same-kind entry2 rs (k .second) y z p2) (same-kind entry3 rs (k .third) y z third)

@@ -46,8 +46,8 @@ gather-below marked [] z = omega arith
 gather-below marked (r ∷ rs) z =
     let more = gather-below marked rs (z / 2) in
     elim (marked r) as (λ m. cond m (z % 2 + 2 * gather marked rs (z / 2)) (gather marked rs (z / 2)) < 2 ^ cond m (suc (count marked rs)) (count marked rs)) [
-      true ↦ omega (arith, double (count marked rs), bit-below z)
-    | false ↦ more
+      | true ↦ omega (arith, double (count marked rs), bit-below z)
+      | false ↦ more
     ]
 
 pub put-below : (marked : Row → Bool) (rs : List Row) (t z : ℕ) → put marked rs t z < 2 ^ length rs
@@ -57,8 +57,8 @@ put-below marked (r ∷ rs) t z =
     let other = put-below marked rs t (z / 2) in
     let twice = double (length rs) in
     elim (marked r) as (λ m. cond m (t % 2 + 2 * put marked rs (t / 2) (z / 2)) (z % 2 + 2 * put marked rs t (z / 2)) < 2 ^ suc (length rs)) [
-      true ↦ omega arith
-    | false ↦ omega arith
+      | true ↦ omega arith
+      | false ↦ omega arith
     ]
 
 -- t modulo a power of two, by its lowest bit
@@ -91,16 +91,16 @@ gather-put marked [] t z = omega arith
 gather-put marked (r ∷ rs) t z =
     ⊎-elim
     (λ m.
-        let x = put marked rs (t / 2) (z / 2) in
-        ap (gather marked (r ∷ rs)) (put-marked marked r rs t z m) ∙ gather-marked marked r rs (t % 2 + 2 * x) m
-        ∙ (λ i. low-bit (t % 2) x (bit-below t) i + 2 * gather marked rs (high-bits (t % 2) x (bit-below t) i))
-        ∙ ap (λ (y : ℕ). t % 2 + 2 * y) (gather-put marked rs (t / 2) (z / 2))
-        ∙ sym (mod-double t (count marked rs)) ∙ ap (λ (e : ℕ). t % 2 ^ e) (sym (count-marked marked r rs m)))
+    let x = put marked rs (t / 2) (z / 2) in
+    ap (gather marked (r ∷ rs)) (put-marked marked r rs t z m) ∙ gather-marked marked r rs (t % 2 + 2 * x) m
+    ∙ (λ i. low-bit (t % 2) x (bit-below t) i + 2 * gather marked rs (high-bits (t % 2) x (bit-below t) i))
+    ∙ ap (λ (y : ℕ). t % 2 + 2 * y) (gather-put marked rs (t / 2) (z / 2))
+    ∙ sym (mod-double t (count marked rs)) ∙ ap (λ (e : ℕ). t % 2 ^ e) (sym (count-marked marked r rs m)))
     (λ m.
-        let x = put marked rs t (z / 2) in
-        ap (gather marked (r ∷ rs)) (put-other marked r rs t z m) ∙ gather-other marked r rs (z % 2 + 2 * x) m
-        ∙ ap (gather marked rs) (high-bits (z % 2) x (bit-below z)) ∙ gather-put marked rs t (z / 2)
-        ∙ ap (λ (e : ℕ). t % 2 ^ e) (sym (count-other marked r rs m)))
+    let x = put marked rs t (z / 2) in
+    ap (gather marked (r ∷ rs)) (put-other marked r rs t z m) ∙ gather-other marked r rs (z % 2 + 2 * x) m
+    ∙ ap (gather marked rs) (high-bits (z % 2) x (bit-below z)) ∙ gather-put marked rs t (z / 2)
+    ∙ ap (λ (e : ℕ). t % 2 ^ e) (sym (count-other marked r rs m)))
     (cases-bool (marked r))
 
 -- no marked row has an entry
@@ -115,17 +115,17 @@ picked-put marked entry (r ∷ rs) s t z =
     let both = and-parts _ _ s in
     ⊎-elim
     (λ m.
-        let none : entry r ≡ 0 = eqb-true _ _ (sym (cond-true (marked r) _ _ m) ∙ both .0) in
-        let x = put marked rs (t / 2) (z / 2) in
-        let nought : (b : ℕ) → b * entry r ≡ 0 = λ b. ap (λ (e : ℕ). b * e) none ∙ mul-zero b in
-        ap (picked entry (r ∷ rs)) (put-marked marked r rs t z m)
-        ∙ (λ i. bitXor (nought ((t % 2 + 2 * x) % 2) i) (picked entry rs (high-bits (t % 2) x (bit-below t) i)))
-        ∙ (λ i. bitXor (sym (nought (z % 2)) i) (picked-put marked entry rs (both .1) (t / 2) (z / 2) i)))
+    let none : entry r ≡ 0 = eqb-true _ _ (sym (cond-true (marked r) _ _ m) ∙ both .0) in
+    let x = put marked rs (t / 2) (z / 2) in
+    let nought : (b : ℕ) → b * entry r ≡ 0 = λ b. ap (λ (e : ℕ). b * e) none ∙ mul-zero b in
+    ap (picked entry (r ∷ rs)) (put-marked marked r rs t z m)
+    ∙ (λ i. bitXor (nought ((t % 2 + 2 * x) % 2) i) (picked entry rs (high-bits (t % 2) x (bit-below t) i)))
+    ∙ (λ i. bitXor (sym (nought (z % 2)) i) (picked-put marked entry rs (both .1) (t / 2) (z / 2) i)))
     (λ m.
-        let x = put marked rs t (z / 2) in
-        ap (picked entry (r ∷ rs)) (put-other marked r rs t z m)
-        ∙ (λ i. bitXor (low-bit (z % 2) x (bit-below z) i * entry r) (picked entry rs (high-bits (z % 2) x (bit-below z) i)))
-        ∙ ap (bitXor (z % 2 * entry r)) (picked-put marked entry rs (both .1) t (z / 2)))
+    let x = put marked rs t (z / 2) in
+    ap (picked entry (r ∷ rs)) (put-other marked r rs t z m)
+    ∙ (λ i. bitXor (low-bit (z % 2) x (bit-below z) i * entry r) (picked entry rs (high-bits (z % 2) x (bit-below z) i)))
+    ∙ ap (bitXor (z % 2 * entry r)) (picked-put marked entry rs (both .1) t (z / 2)))
     (cases-bool (marked r))
 
 -- the entries of the marked rows are 2^j, 2^(j+1), .. in order, and the others have none
@@ -140,18 +140,18 @@ picked-rising marked entry j [] h z = sym (mul-zero (2 ^ j))
 picked-rising marked entry j (r ∷ rs) h z =
     ⊎-elim
     (λ m.
-        let both = and-parts _ _ (sym (cond-true (marked r) _ _ m) ∙ h) in
-        let g = gather marked rs (z / 2) in
-        let here : z % 2 * entry r ≡ z % 2 * 2 ^ j = ap (λ (e : ℕ). z % 2 * e) (eqb-true _ _ (both .0)) in
-        let low : z % 2 * 2 ^ j < 2 ^ suc j = rw (double j) (omega (arith, mul-below (z % 2) (2 ^ j) (bit-below z), pow-pos j)) in
-        (λ i. bitXor (here i) (picked-rising marked entry (suc j) rs (both .1) (z / 2) i))
-        ∙ xor-comm (z % 2 * 2 ^ j) (2 ^ suc j * g) ∙ ap (λ (x : ℕ). bitXor x (z % 2 * 2 ^ j)) (mul-comm (2 ^ suc j) g) ∙ xor-shifted g (suc j) (z % 2 * 2 ^ j) low
-        ∙ regroup (2 ^ j) (2 ^ suc j) g (z % 2) (double j) ∙ ap (λ (x : ℕ). 2 ^ j * x) (sym (gather-marked marked r rs z m)))
+    let both = and-parts _ _ (sym (cond-true (marked r) _ _ m) ∙ h) in
+    let g = gather marked rs (z / 2) in
+    let here : z % 2 * entry r ≡ z % 2 * 2 ^ j = ap (λ (e : ℕ). z % 2 * e) (eqb-true _ _ (both .0)) in
+    let low : z % 2 * 2 ^ j < 2 ^ suc j = rw (double j) (omega (arith, mul-below (z % 2) (2 ^ j) (bit-below z), pow-pos j)) in
+    (λ i. bitXor (here i) (picked-rising marked entry (suc j) rs (both .1) (z / 2) i))
+    ∙ xor-comm (z % 2 * 2 ^ j) (2 ^ suc j * g) ∙ ap (λ (x : ℕ). bitXor x (z % 2 * 2 ^ j)) (mul-comm (2 ^ suc j) g) ∙ xor-shifted g (suc j) (z % 2 * 2 ^ j) low
+    ∙ regroup (2 ^ j) (2 ^ suc j) g (z % 2) (double j) ∙ ap (λ (x : ℕ). 2 ^ j * x) (sym (gather-marked marked r rs z m)))
     (λ m.
-        let both = and-parts _ _ (sym (cond-false (marked r) _ _ m) ∙ h) in
-        let here : z % 2 * entry r ≡ 0 = ap (λ (e : ℕ). z % 2 * e) (eqb-true _ _ (both .0)) ∙ mul-zero (z % 2) in
-        ap (λ (x : ℕ). bitXor x (picked entry rs (z / 2))) here ∙ xor-zero-l _
-        ∙ picked-rising marked entry j rs (both .1) (z / 2) ∙ ap (λ (x : ℕ). 2 ^ j * x) (sym (gather-other marked r rs z m)))
+    let both = and-parts _ _ (sym (cond-false (marked r) _ _ m) ∙ h) in
+    let here : z % 2 * entry r ≡ 0 = ap (λ (e : ℕ). z % 2 * e) (eqb-true _ _ (both .0)) ∙ mul-zero (z % 2) in
+    ap (λ (x : ℕ). bitXor x (picked entry rs (z / 2))) here ∙ xor-zero-l _
+    ∙ picked-rising marked entry j rs (both .1) (z / 2) ∙ ap (λ (x : ℕ). 2 ^ j * x) (sym (gather-other marked r rs z m)))
     (cases-bool (marked r))
 
 -- the exclusive or of two entries
@@ -177,7 +177,7 @@ pub peel : (marked : Row → Bool) (r : Row) (rs : List Row) (y z : ℕ) → gat
 peel marked r rs y z e =
     ⊎-elim
     (λ m.
-        let same : y % 2 + 2 * gather marked rs (y / 2) ≡ z % 2 + 2 * gather marked rs (z / 2) = sym (gather-marked marked r rs y m) ∙ e ∙ gather-marked marked r rs z m in
-        ((λ _. omega (arith, bit-below y, bit-below z)), omega (arith, bit-below y, bit-below z)))
+    let same : y % 2 + 2 * gather marked rs (y / 2) ≡ z % 2 + 2 * gather marked rs (z / 2) = sym (gather-marked marked r rs y m) ∙ e ∙ gather-marked marked r rs z m in
+    ((λ _. omega (arith, bit-below y, bit-below z)), omega (arith, bit-below y, bit-below z)))
     (λ m. ((λ t. absurd (both-ways (marked r) m t)), sym (gather-other marked r rs y m) ∙ e ∙ gather-other marked r rs z m))
     (cases-bool (marked r))

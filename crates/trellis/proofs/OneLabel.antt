@@ -19,10 +19,10 @@ use Rattle.trellis.proofs.Gather.{count, low-bit, high-bits, double, bit-below
 pub xor-parity : (a b : ℕ) → bitXor a b % 2 ≡ (a + b) % 2
 xor-parity a b =
     let small : (x y : ℕ) → x < 2 → y < 2 → bitXor x y ≡ (x + y) % 2 =
-            λ x y hx hy. ⊎-elim
-            (λ (e : x ≡ 0). rw e (omega arith))
-            (λ (e : x ≡ 0 → ⊥). let one : x ≡ 1 = omega arith in rw one (⊎-elim (λ (f : y ≡ 0). rw f refl) (λ (f : y ≡ 0 → ⊥). let also : y ≡ 1 = omega arith in rw also refl) (cases-eq y 0)))
-            (cases-eq x 0) in
+    λ x y hx hy. ⊎-elim
+    (λ (e : x ≡ 0). rw e (omega arith))
+    (λ (e : x ≡ 0 → ⊥). let one : x ≡ 1 = omega arith in rw one (⊎-elim (λ (f : y ≡ 0). rw f refl) (λ (f : y ≡ 0 → ⊥). let also : y ≡ 1 = omega arith in rw also refl) (cases-eq y 0)))
+    (cases-eq x 0) in
     xor-mod a b 1 ∙ small (a % 2) (b % 2) (bit-below a) (bit-below b) ∙ omega arith
 
 -- `Agree` at its first row
@@ -41,14 +41,14 @@ agree-put marked [] t z = tt
 agree-put marked (r ∷ rs) t z =
     ⊎-elim
     (λ m.
-        let x = put marked rs (t / 2) (z / 2) in
-        let half : put marked (r ∷ rs) t z / 2 ≡ x = ap (λ (y : ℕ). y / 2) (put-marked marked r rs t z m) ∙ high-bits (t % 2) x (bit-below t) in
-        (agree-marked marked r z (put marked (r ∷ rs) t z) m, subst (λ (y : ℕ). Agree marked rs (z / 2) y) (sym half) (agree-put marked rs (t / 2) (z / 2))))
+    let x = put marked rs (t / 2) (z / 2) in
+    let half : put marked (r ∷ rs) t z / 2 ≡ x = ap (λ (y : ℕ). y / 2) (put-marked marked r rs t z m) ∙ high-bits (t % 2) x (bit-below t) in
+    (agree-marked marked r z (put marked (r ∷ rs) t z) m, subst (λ (y : ℕ). Agree marked rs (z / 2) y) (sym half) (agree-put marked rs (t / 2) (z / 2))))
     (λ m.
-        let x = put marked rs t (z / 2) in
-        let half : put marked (r ∷ rs) t z / 2 ≡ x = ap (λ (y : ℕ). y / 2) (put-other marked r rs t z m) ∙ high-bits (z % 2) x (bit-below z) in
-        let low : put marked (r ∷ rs) t z % 2 ≡ z % 2 = ap (λ (y : ℕ). y % 2) (put-other marked r rs t z m) ∙ low-bit (z % 2) x (bit-below z) in
-        (agree-other marked r z (put marked (r ∷ rs) t z) (sym low), subst (λ (y : ℕ). Agree marked rs (z / 2) y) (sym half) (agree-put marked rs t (z / 2))))
+    let x = put marked rs t (z / 2) in
+    let half : put marked (r ∷ rs) t z / 2 ≡ x = ap (λ (y : ℕ). y / 2) (put-other marked r rs t z m) ∙ high-bits (z % 2) x (bit-below z) in
+    let low : put marked (r ∷ rs) t z % 2 ≡ z % 2 = ap (λ (y : ℕ). y % 2) (put-other marked r rs t z m) ∙ low-bit (z % 2) x (bit-below z) in
+    (agree-other marked r z (put marked (r ∷ rs) t z) (sym low), subst (λ (y : ℕ). Agree marked rs (z / 2) y) (sym half) (agree-put marked rs t (z / 2))))
     (cases-bool (marked r))
 
 -- a label is known by the bits that are put and those that stay
@@ -58,14 +58,14 @@ put-sole marked (r ∷ rs) t y z h g a =
     let twice = double (length rs) in
     ⊎-elim
     (λ m.
-        let whole : z % 2 + 2 * gather marked rs (z / 2) ≡ t = sym (gather-marked marked r rs z m) ∙ g in
-        let low = bit-below z in
-        let rest = put-sole marked rs (t / 2) (y / 2) (z / 2) (omega arith) (omega arith) (a .1) in
-        omega (arith, put-marked marked r rs t y m, rest))
+    let whole : z % 2 + 2 * gather marked rs (z / 2) ≡ t = sym (gather-marked marked r rs z m) ∙ g in
+    let low = bit-below z in
+    let rest = put-sole marked rs (t / 2) (y / 2) (z / 2) (omega arith) (omega arith) (a .1) in
+    omega (arith, put-marked marked r rs t y m, rest))
     (λ m.
-        let same = agree-low marked r y z m (a .0) in
-        let rest = put-sole marked rs t (y / 2) (z / 2) (omega arith) (sym (gather-other marked r rs z m) ∙ g) (a .1) in
-        omega (arith, put-other marked r rs t y m, rest))
+    let same = agree-low marked r y z m (a .0) in
+    let rest = put-sole marked rs t (y / 2) (z / 2) (omega arith) (sym (gather-other marked r rs z m) ∙ g) (a .1) in
+    omega (arith, put-other marked r rs t y m, rest))
     (cases-bool (marked r))
 
 -- the first row, that of the parity bit, is not marked

@@ -41,9 +41,10 @@ polynomials-below n e =
     let b = unless-none (isLater v (n .h1)) 7 _ (omega arith) (a .1) in
     let c = unless-none (isDue (leb 2 (n .checked)) v (n .h2)) 8 _ (omega arith) (b .1) in
     let d = unless-none (isDue (leb 3 (n .checked)) v (n .h3)) 9 _ (omega arith) (c .1) in
-    let first = and-parts (eqb (n .h0 % 2) 1) (leb (2 ^ v) (n .h0) && ltb (n .h0) (2 ^ (v + 1))) (a .0) in
-    ( ltb-true _ _ (and-parts (leb (2 ^ v) (n .h0)) (ltb (n .h0) (2 ^ (v + 1))) (first .1) .1),
-      (ltb-true _ _ (and-parts (leb 1 (n .h1)) (ltb (n .h1) (2 ^ (v + 1))) (b .0) .1), (due-below _ v (n .h2) (c .0), (due-below _ v (n .h3) (d .0), tt))) )
+    let first = and-parts (eqb (n .h0 % 2) 1) (leb (2 ^ v) (n .h0) && ltb (n .h0) (2 ^ (v + 1))) (a .0) in (
+      ltb-true _ _ (and-parts (leb (2 ^ v) (n .h0)) (ltb (n .h0) (2 ^ (v + 1))) (first .1) .1),
+      (ltb-true _ _ (and-parts (leb 1 (n .h1)) (ltb (n .h1) (2 ^ (v + 1))) (b .0) .1), (due-below _ v (n .h2) (c .0), (due-below _ v (n .h3) (d .0), tt))),
+    )
 
 pub memory-bound : (n : Numbers) → limitFault n ≡ 0 → n .memory ≤ 8
 memory-bound n e = leb-true _ _ (and-parts _ _ (within n e .memory) .1)

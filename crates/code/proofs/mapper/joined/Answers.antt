@@ -9,12 +9,13 @@ use Rattle.code.proofs.mapper.joined.Needs as need
 pub loop-row-again : need.loop-row-again
 loop-row-again c =
     let i = c .loop-row .inv in
-    let within = c .loop-row-test .taken in
-    ( left-more (λ x. x .turn) _ _ _ _ _ _ _ within (c .picked-entry-turn .ensures) (i .0),
+    let within = c .loop-row-test .taken in (
+      left-more (λ x. x .turn) _ _ _ _ _ _ _ within (c .picked-entry-turn .ensures) (i .0),
       left-more (entryAt 0) _ _ _ _ _ _ _ within (c .picked-entry-first .ensures) (i .1),
       left-more (entryAt 1) _ _ _ _ _ _ _ within (c .picked-entry-second .ensures) (i .2),
       left-more (entryAt 2) _ _ _ _ _ _ _ within (c .picked-entry-third .ensures) (i .3),
-      left-more (entryAt 3) _ _ _ _ _ _ _ within (c .picked-entry-fourth .ensures) (i .4) )
+      left-more (entryAt 3) _ _ _ _ _ _ _ within (c .picked-entry-fourth .ensures) (i .4),
+    )
 
 pub returns : need.returns
 returns c =

@@ -7,10 +7,10 @@ use Rattle.sender.proofs.encoder.gathered.Needs.{then-least-row, else-least-ro
 pub loop-row-again : need.loop-row-again
 loop-row-again c =
     elim (c .if-least-row .came) [
-      then-least-row w ↦
+      | then-least-row w ↦
           simp (w .number-is, w .weight-is) (gathered-marked (turnsBy (c .args .least)) (c .args .rows .now) (c .loop-row .row-index) _ (c .loop-row-test .taken)
           _ _ _ _ _ (le-leb _ _ (w .if-least-row .taken)) (w .weighed-number .ensures) (c .loop-row .inv))
-    | else-least-row w ↦
+      | else-least-row w ↦
           simp (w .number-is, w .weight-is) (gathered-other (turnsBy (c .args .least)) (c .args .rows .now) (c .loop-row .row-index) _ (c .loop-row-test .taken)
           _ _ _ _ (lt-leb _ _ (w .if-least-row .left)) (c .loop-row .inv))
     ]

@@ -7,8 +7,10 @@ cast-even c =
 
 pub add-result : need.add-result
 add-result c =
-    record { fits = label-fits (c .args .code) (c .step .result) (c .step .ensures .value) (c .rows .result .now) (c .rows .ensures .value)
-        (c .args .state .0) _ (c .args .risen) (c .args .word .0) _ (c .replaced-even .ensures) (c .syndrome .ensures) }
+    record {
+      fits = label-fits (c .args .code) (c .step .result) (c .step .ensures .value) (c .rows .result .now) (c .rows .ensures .value)
+          (c .args .state .0) _ (c .args .risen) (c .args .word .0) _ (c .replaced-even .ensures) (c .syndrome .ensures);
+    }
 
 pub returns : need.returns
 returns c =
