@@ -3,14 +3,17 @@ ghost use mathlib.Core.Path.{_≡_};
 ghost use Prim.Native.Nat.{_≤_, _<_};
 ghost use lib.ListN.{getD};
 ghost use Rattle.trellis.specs.Numbers.{phaseBits, polynomials};
+ghost use Rattle.trellis.specs.Transparency.{Transparency};
 ghost use Rattle.trellis.specs.Step.{turningBit, checkedTurns, stepExponent, step};
 use crate::record::Code;
 use trellis::Numbers;
 
 impl Code {
-    // How many phases the carrier has to turn before the code can no longer tell.
+    // The unit of the turnings of the carrier that the code cannot tell apart: a turning by a multiple of it takes the
+    // paths one to one to paths with the same data words; any other takes some path to phases that no path has.
     pub fn step(self) -> u8
         ensures value { λ r. ⌜ r ≡ step (self .numbers) ⌝ }
+        ensures transparency { λ _. ⌜ Transparency (self .numbers) ⌝ }
         ensures least { λ r. ⌜ 1 ≤ r ⌝ }
         ensures most { λ r. ⌜ r ≤ self .numbers .phases ⌝ }
     {

@@ -36,7 +36,7 @@ differentialWell l m q =
     ((eqb (turningRow l (bitsOf m) 0 - q) 0 && eqb d 0) || headFree (turnsBy (2 ^ d)) (setRows l m q))
     && (eqb (count (turnsBy (2 ^ d)) (setRows l m q)) (bitsOf m - d) && (eqb (m / 2 ^ d) (2 ^ (bitsOf m - d)) && (leb (2 ^ d) m && leb (2 ^ (bitsOf m - d)) 16))))
 
-turns-below : (n : Numbers) (c k : ℕ) → checkedTurns n c k ≤ k
+pub turns-below : (n : Numbers) (c k : ℕ) → checkedTurns n c k ≤ k
 turns-below n c zero = omega arith
 turns-below n c (suc k) =
     let less = turns-below n c k in

@@ -84,6 +84,9 @@ kinds n w =
       places = below-at 4 (λ x. small (entryAt x) (bitsOf (n .phases)) (labelRows n) && (ltb x (n .places) || silent (λ _. true) (entryAt x) (labelRows n))) (g .1);
     }
 
+pub phases-power : (n : Numbers) → Within n → 2 ^ bitsOf (n .phases) ≡ n .phases
+phases-power n w = kinds n w .power
+
 pub label-length : (n : Numbers) → Within n → length (labelRows n) ≡ labelBits n
 label-length n w = kinds n w .long
 

@@ -5,3 +5,12 @@ pub mod Distinct
 pub mod OneLabel
 pub mod BurstLaws
 pub mod Polynomials
+pub mod Syndromes
+pub mod ParityEquation
+pub mod StateShift
+pub mod CheckedTurns
+pub mod Turnings
+pub mod Levels
+pub mod Turned
+pub mod StepLaws
+pub mod Branches

@@ -89,7 +89,7 @@ even-put marked r rs t w m = omega (arith, put-other marked r rs t (placed w) m)
 
 module _ (h : ℕ) (hs : List ℕ) (odd : h % 2 ≡ 1) where
   -- a parity bit turns the parity of the syndrome
-  parity-of : (S x b : ℕ) → x % 2 ≡ 0 → b < 2 → bitXor S (syndrome (h ∷ hs) (x + b)) % 2 ≡ (bitXor S (syndrome (h ∷ hs) x) + b) % 2
+  pub parity-of : (S x b : ℕ) → x % 2 ≡ 0 → b < 2 → bitXor S (syndrome (h ∷ hs) (x + b)) % 2 ≡ (bitXor S (syndrome (h ∷ hs) x) + b) % 2
   parity-of S x b even small =
       let Y = syndrome hs (x / 2) in
       let low : (x + b) % 2 ≡ b = omega arith in

@@ -8,3 +8,5 @@ pub mod Parity
 pub mod Path
 pub mod Precoder
 pub mod Burst
+pub mod Words
+pub mod Transparency

@@ -4,6 +4,8 @@ use native.Mathlib.Omega.{arith}
 use lib.Pow.{pow-pos}
 use Rattle.std.proofs.shelf.Bits.{one-shl}
 use Rattle.trellis.proofs.BurstLaws.{sends}
+use Rattle.trellis.proofs.StepLaws.{transparency}
+use Rattle.trellis.proofs.Turned.{accept}
 use Rattle.trellis.specs.Step.{step, stepExponent}
 use Rattle.code.proofs.record.Code.step.Needs as need
 
@@ -15,4 +17,5 @@ returns c =
     let is : (1 * 2 ^ c .step-exponent .result) % 256 ≡ step n = one-shl (c .step-exponent .result) 8 (omega arith) ∙ ap (λ (k : ℕ). 2 ^ k) (c .step-exponent .ensures .value) in
     let some = pow-pos (stepExponent n) in
     let most = s .within-phases in
-    record { value = is; least = omega arith; most = omega arith }
+    let theorem = transparency n (accept n (c .args .self .limits) (c .args .self .polynomials) (c .args .self .parity)) in
+    record { value = is; transparency = theorem; least = omega arith; most = omega arith }
