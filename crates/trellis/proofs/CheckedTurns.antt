@@ -9,6 +9,7 @@ use native.Mathlib.Omega.{arith}
 use lib.Bits.{bitXor}
 use lib.Dec.{eqb, leb, ltb}
 use lib.ListN.{length, getD, take, drop}
+use Rattle.std.proofs.shelf.Lists.{length-map, length-take-le, getD-map, getD-take}
 use Rattle.std.proofs.shelf.Tests.{and-parts, eqb-true, leb-true, ltb-true, cases-bool, cond-true, cond-false, true≢false}
 use Rattle.std.specs.Options.{valueOr}
 use Rattle.std.specs.declared.option.Option.{Option}
@@ -137,26 +138,6 @@ take-below hs zero k a = tt
 take-below [] (suc j) k a = tt
 take-below (h ∷ hs) (suc j) k a = (a .0, take-below hs j k (a .1))
 
-take-length : (hs : List ℕ) (k : ℕ) → k ≤ length hs → length (take k hs) ≡ k
-take-length hs zero h = refl
-take-length [] (suc k) h = absurd (omega arith)
-take-length (x ∷ hs) (suc k) h = ap suc (take-length hs k (omega arith))
-
-take-at : (hs : List ℕ) (k j : ℕ) → j < k → getD hs j 0 ≡ getD (take k hs) j 0
-take-at hs zero j h = absurd (omega arith)
-take-at [] (suc k) j h = refl
-take-at (x ∷ hs) (suc k) zero h = refl
-take-at (x ∷ hs) (suc k) (suc j) h = take-at hs k j (omega arith)
-
-map-length : (f : ℕ → ℕ) (xs : List ℕ) → length (map f xs) ≡ length xs
-map-length f [] = refl
-map-length f (x ∷ xs) = ap suc (map-length f xs)
-
-map-at : (f : ℕ → ℕ) (xs : List ℕ) (j : ℕ) → j < length xs → getD (map f xs) j 0 ≡ f (getD xs j 0)
-map-at f [] j h = absurd (omega arith)
-map-at f (x ∷ xs) zero h = refl
-map-at f (x ∷ xs) (suc j) h = map-at f xs j (omega arith)
-
 pub checked : (n : Numbers) → limitFault n ≡ 0 → polynomialFault n ≡ 0 → Checked n
 checked n limits polys =
     let w = within n limits in
@@ -177,14 +158,14 @@ checked n limits polys =
     let rows = labelRows n in
     let hs = checkedPolynomials n in
     let spots = places (turnsBy 1) 0 rows (suc c) in
-    let hs-long : length hs ≡ suc c = take-length (polynomials n) (suc c) (omega arith) in
+    let hs-long : length hs ≡ suc c = length-take-le (suc c) (polynomials n) (omega arith) in
     let here = and-parts _ _ (below-at 4 (λ k.
     eqb (length (places (turnsBy 1) 0 (labelRows n) (suc k))) (turnsOf (n .places) (n .phases) (n .offset) k (phaseBits n))
     && below (length (places (turnsBy 1) 0 (labelRows n) (suc k))) (λ j. eqb (getD (places (turnsBy 1) 0 (labelRows n) (suc k)) j 0) (turningBit n j))) (at-set placesWell refl n w) c (omega arith)) in
     let are : turningPolynomials n ≡ map (λ x. getD (polynomials n) x 0) spots =
-    marks-places (turnsBy 1) rows (polynomials n) hs 0 (λ j l. ap (λ (k : ℕ). getD (polynomials n) k 0) (zero-add j) ∙ take-at (polynomials n) (suc c) j (subst (λ (k : ℕ). j < k) hs-long l))
+    marks-places (turnsBy 1) rows (polynomials n) hs 0 (λ j l. ap (λ (k : ℕ). getD (polynomials n) k 0) (zero-add j) ∙ sym (getD-take (suc c) (polynomials n) j 0 (subst (λ (k : ℕ). j < k) hs-long l)))
     ∙ ap (λ (k : ℕ). map (λ x. getD (polynomials n) x 0) (places (turnsBy 1) 0 rows k)) hs-long in
-    let counted : length (turningPolynomials n) ≡ length spots = ap length are ∙ map-length (λ x. getD (polynomials n) x 0) spots in
+    let counted : length (turningPolynomials n) ≡ length spots = ap length are ∙ length-map spots (λ x. getD (polynomials n) x 0) in
     let total : length spots ≡ checkedTurns n c (phaseBits n) = eqb-true _ _ (here .0) ∙ sym (turns-of n c (phaseBits n)) in
     let most = turns-below n c (phaseBits n) in
     let long = label-length n w in
@@ -195,7 +176,7 @@ checked n limits polys =
       few = omega arith;
       at = λ j l.
           let l′ : j < length spots = omega arith in
-          ap (λ (ps : List ℕ). getD ps j 0) are ∙ map-at (λ x. getD (polynomials n) x 0) spots j l′
+          ap (λ (ps : List ℕ). getD ps j 0) are ∙ getD-map (λ x. getD (polynomials n) x 0) spots j 0 0 l′
           ∙ ap (λ (x : ℕ). getD (polynomials n) x 0) (eqb-true _ _ (below-at (length spots) (λ j. eqb (getD spots j 0) (turningBit n j)) (here .1) j l′));
       some = marks-some (turnsBy 1) rows hs (front-some v (n .h0) (n .h1) (n .h2) (n .h3) h0-some h1-some c low high (d2 .0) (d3 .0));
       small = marks-below (turnsBy 1) rows hs (v + 1) (take-below (polynomials n) (suc c) (v + 1) (polynomials-below n polys));

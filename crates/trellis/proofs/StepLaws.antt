@@ -10,6 +10,7 @@ use lib.Bits.{bitXor, xor-lt}
 use lib.Dec.{ltb}
 use lib.ListN.{length, getD}
 use lib.Pow.{pow-pos, pow-lt}
+use Rattle.std.proofs.shelf.Lists.{length-map}
 use Rattle.std.proofs.shelf.Tests.{cases-lt, cases-eq, cond-false, le-ltb}
 use Rattle.trellis.specs.declared.Numbers.{Numbers}
 use Rattle.trellis.specs.Mapper.{phaseAt, symbolOf, turningNumber, turnedLabel}
@@ -28,10 +29,6 @@ use Rattle.trellis.proofs.ParityEquation.{parityBit, syndromes, path-parity, p
 use Rattle.trellis.proofs.StateShift.{Bounded, leads-shifted}
 use Rattle.trellis.proofs.Turned.{Accepted, exponent-is, turned-below, turned-back, syndrome-turned, word-turned, bare-below, bare-syndrome, bare-turned, xor-back}
 use Rattle.trellis.proofs.Turnings.{Change, change, Told, tell}
-
-map-length : (f : ℕ → ℕ) (xs : List ℕ) → length (map f xs) ≡ length xs
-map-length f [] = refl
-map-length f (x ∷ xs) = ap suc (map-length f xs)
 
 map-map : (f g : ℕ → ℕ) (xs : List ℕ) → map f (map g xs) ≡ map (λ x. f (g x)) xs
 map-map f g [] = refl
@@ -69,7 +66,7 @@ module _ (n : Numbers) (a : Accepted n) where
       record {
         state = xor-lt (n .memory) S K (p .state) small;
         labels = labels zs;
-        long = map-length f zs ∙ p .long;
+        long = length-map zs f ∙ p .long;
         leads = (bitXor (p .leads .0) K, leads-shifted (polynomials n) K h (2 ^ labelBits n) f shifts adds S zs (p .leads .0) (bounded zs (p .labels)) (p .leads .1));
       }
 
@@ -125,7 +122,7 @@ module _ (n : Numbers) (a : Accepted n) where
       let told = tell ps v r (a .check .small) (a .check .some) (λ e. ne (ap (λ (x : ℕ). r % 2 ^ x) (exponent-is n a) ∙ e)) in
       let ts = told .numbers in
       let zs : List ℕ = map (λ t. put (turnsBy 1) (labelRows n) t 0) ts in
-      let long : length zs ≡ v + 1 = map-length (λ t. put (turnsBy 1) (labelRows n) t 0) ts ∙ told .long in
+      let long : length zs ≡ v + 1 = length-map ts (λ t. put (turnsBy 1) (labelRows n) t 0) ∙ told .long in
       let plain : parityBit v (syndromes hs zs) ≡ 0 = ap (parityBit v) (map-map (syndrome hs) (λ t. put (turnsBy 1) (labelRows n) t 0) ts ∙ map-same _ (syndrome ps) (bare-syndrome n a) ts) ∙ told .plain in
       let start = parity-path hs v zs long plain in
       let after : parityBit v (syndromes hs (map (turnedLabel n r) zs)) ≡ 1 =

@@ -11,6 +11,7 @@ use lib.Bits.{bitXor, xor-comm, xor-assoc, xor-zero-r, xor-self}
 use lib.Count.{ones}
 use lib.ListN.{length, getD, set, replicate, length-set, length-replicate}
 use lib.Pow.{pow-pos, mod-pow-add, shr-shr}
+use Rattle.std.proofs.shelf.Lists.{length-map, getD-map, map-set}
 use Rattle.std.proofs.shelf.Tests.{cases-eq}
 use Rattle.trellis.specs.Parity.{syndrome}
 use Rattle.trellis.proofs.CheckedTurns.{NoneZero}
@@ -122,21 +123,6 @@ pub record Told (ps : List ℕ) (v r : ℕ) : Type 0 where
   pub plain : parityBit v (map (syndrome ps) numbers) ≡ 0
   pub turned : parityBit v (map (λ t. syndrome ps (t + r)) numbers) ≡ 1
 
-map-set : (g : ℕ → ℕ) (xs : List ℕ) (i y : ℕ) → map g (set xs i y) ≡ set (map g xs) i (g y)
-map-set g [] zero y = refl
-map-set g [] (suc i) y = refl
-map-set g (x ∷ xs) zero y = refl
-map-set g (x ∷ xs) (suc i) y = ap (λ (l : List ℕ). g x ∷ l) (map-set g xs i y)
-
-map-at : (g : ℕ → ℕ) (xs : List ℕ) (i : ℕ) → i < length xs → getD (map g xs) i 0 ≡ g (getD xs i 0)
-map-at g [] i h = absurd (omega arith)
-map-at g (x ∷ xs) zero h = refl
-map-at g (x ∷ xs) (suc i) h = map-at g xs i (omega arith)
-
-map-length : (g : ℕ → ℕ) (xs : List ℕ) → length (map g xs) ≡ length xs
-map-length g [] = refl
-map-length g (x ∷ xs) = ap suc (map-length g xs)
-
 map-replicate : (g : ℕ → ℕ) (k x : ℕ) → map g (replicate k x) ≡ replicate k (g x)
 map-replicate g zero x = refl
 map-replicate g (suc k) x = ap (λ (l : List ℕ). g x ∷ l) (map-replicate g k x)
@@ -144,9 +130,9 @@ map-replicate g (suc k) x = ap (λ (l : List ℕ). g x ∷ l) (map-replicate g k
 -- One number of the list is exchanged.
 exchange : (g : ℕ → ℕ) (v i e : ℕ) (xs : List ℕ) (y : ℕ) → i + e ≡ v → i < length xs → parityBit v (map g (set xs i y)) ≡ (parityBit v (map g xs) + (g (getD xs i 0) / 2 ^ e % 2 + g y / 2 ^ e % 2)) % 2
 exchange g v i e xs y is h =
-    let l : i < length (map g xs) = omega (arith, map-length g xs) in
+    let l : i < length (map g xs) = omega (arith, length-map xs g) in
     ap (parityBit v) (map-set g xs i y) ∙ parity-set v i e (map g xs) (g y) is l
-    ∙ ap (λ (k : ℕ). (parityBit v (map g xs) + bitXor k (g y) / 2 ^ e % 2) % 2) (map-at g xs i h)
+    ∙ ap (λ (k : ℕ). (parityBit v (map g xs) + bitXor k (g y) / 2 ^ e % 2) % 2) (getD-map g xs i 0 0 h)
     ∙ ap (λ (k : ℕ). (parityBit v (map g xs) + k) % 2) (bit-xor-at (g (getD xs i 0)) (g y) e)
     ∙ omega arith
 
