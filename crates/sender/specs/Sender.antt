@@ -10,6 +10,7 @@ use Rattle.std.specs.declared.result.Result.the-variants.{Ok, Err}
 use Rattle.sender.specs.declared.refusal.SendRefusal.{SendRefusal}
 use Rattle.sender.specs.declared.refusal.SendRefusal.the-variants.{Full, TooWide}
 use Rattle.sender.specs.declared.states.Sending.{Sending}
+use Rattle.sender.specs.declared.states.Snapshot.{Snapshot}
 use Rattle.trellis.specs.declared.Numbers.{Numbers}
 use Rattle.trellis.specs.Mapper.{symbolOf}
 use Rattle.trellis.specs.Numbers.{wordBits, polynomials}
@@ -25,6 +26,10 @@ pub record Standing : Type 0 where
 
 abbrev pub standing : Sending → Standing
 standing b = record { numbers = b .code .numbers; S = b .state .0; V = b .differential; sent = b .sent }
+
+-- Where a burst stood that was set down.
+abbrev pub setDown : Snapshot → Standing
+setDown b = record { numbers = b .code .numbers; S = b .state .0; V = b .differential; sent = b .sent }
 
 -- A burst begins in state 0 with differential number 0.
 abbrev pub begun : Numbers → Standing

@@ -3,9 +3,11 @@
 // a quiet sender, a word after the end, and a sender left lying are refused when a program is built.
 mod encoder;
 mod refusal;
+mod snapshot;
 mod states;
 mod steps;
 
 pub use refusal::SendRefusal;
 pub use states::Quiet;
 pub use states::Sending;
+pub use states::Snapshot;

@@ -14,3 +14,12 @@ pub struct Sending {
     pub(crate) differential: u8,
     pub(crate) sent: u8,
 }
+
+// A burst set down as plain numbers, as a caller in another language has to keep it.
+#[derive(Clone, Copy)]
+pub struct Snapshot {
+    pub code: Code,
+    pub state: State,
+    pub differential: u8,
+    pub sent: u8,
+}
