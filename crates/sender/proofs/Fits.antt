@@ -29,6 +29,17 @@ power-up : (i j : ℕ) → i ≤ j → 2 ^ i ≤ 2 ^ j
 power-up i j h = pow-le-pow-right {n = 2} (omega arith) {i = i} {j = j} h
 
 module _ (k : Code) where
+  -- the rows of a code: between 2 and 16
+  module _ (rows : List Row) (rows-are : rows ≡ labelRows (k .numbers)) where
+    pub rows-long : length rows ≡ labelBits (k .numbers)
+    rows-long = ap length rows-are ∙ accepted k .long
+
+    pub rows-least : 2 ≤ length rows
+    rows-least = let long = rows-long in let least = accepted k .least in omega arith
+
+    pub rows-most : length rows ≤ 16
+    rows-most = let long = rows-long in let most = accepted k .most in omega arith
+
   -- the number of data words
   pub words-are : (len : ℕ) → len ≡ labelBits (k .numbers) → (1 * 2 ^ (len - 1)) % 65536 ≡ 2 ^ wordBits (k .numbers)
   words-are len e =

@@ -18,30 +18,34 @@ use trellis::Numbers;
 use trellis::Row;
 
 // How many data words there are: the least number that is none.
-pub(crate) fn words(code: Code) -> u16
+pub(crate) fn words(code: Code, rows: &[Row]) -> u16
+    requires { ⌜ now rows ≡ labelRows (code .numbers) ⌝ }
     ensures value { λ r. ⌜ r ≡ 2 ^ wordBits (code .numbers) ⌝ }
     ensures bound { λ r. ⌜ r ≤ 2 ^ 15 ⌝ }
 {
-    1 << (code.rows().len() - 1)
+    1 << (rows.len() - 1)
 }
 
-// The differential number after the word.
-pub(crate) fn risen(code: Code, differential: u8, word: Word) -> u8
-    requires { ⌜ word .0 < 2 ^ 15 ⌝ }
+// The differential number after the word. `unit` is the code's step and `rows` its rows.
+pub(crate) fn risen(code: Code, unit: u8, rows: &[Row], differential: u8, word: Word) -> u8
+    requires unit { ⌜ unit ≡ step (code .numbers) ⌝ }
+    requires rows { ⌜ now rows ≡ labelRows (code .numbers) ⌝ }
+    requires word { ⌜ word .0 < 2 ^ 15 ⌝ }
     ensures { λ r. ⌜ r ≡ risen (code .numbers) differential (word .0) ⌝ }
 {
-    let step = code.step();
-    let number = gathered(code.rows(), step, 2 * word.0);
-    let modulus = code.numbers.phases / step;
+    let number = gathered(rows, unit, 2 * word.0);
+    let modulus = code.numbers.phases / unit;
     ((differential as u32 + number) % modulus as u32) as u8
 }
 
 // The label of the word, from the differential number after it.
-pub(crate) fn label_of(code: Code, state: State, risen: u8, word: Word) -> Label
-    requires { ⌜ word .0 < 2 ^ 15 ⌝ }
+pub(crate) fn label_of(code: Code, unit: u8, rows: &[Row], state: State, risen: u8, word: Word) -> Label
+    requires unit { ⌜ unit ≡ step (code .numbers) ⌝ }
+    requires rows { ⌜ now rows ≡ labelRows (code .numbers) ⌝ }
+    requires word { ⌜ word .0 < 2 ^ 15 ⌝ }
     ensures { λ r. ⌜ r .0 ≡ withParity (polynomials (code .numbers)) (state .0) (put (turnsBy (step (code .numbers))) (labelRows (code .numbers)) risen (placed (word .0))) ⌝ }
 {
-    let even = replaced(code.rows(), code.step(), risen as u16, 2 * word.0) as u16;
+    let even = replaced(rows, unit, risen as u16, 2 * word.0) as u16;
     Label(even + (state.0 as u16 ^ syndrome(code.numbers, even)) % 2)
 }
 

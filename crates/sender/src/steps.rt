@@ -48,11 +48,13 @@ impl Sending {
             return Err(SendRefusal::Full);
         }
         let code = self.code;
-        if word.0 >= words(code) {
+        let rows = code.rows();
+        if word.0 >= words(code, rows) {
             return Err(SendRefusal::TooWide);
         }
-        let risen = risen(code, self.differential, word);
-        let label = label_of(code, self.state, risen, word);
+        let unit = code.step();
+        let risen = risen(code, unit, rows, self.differential, word);
+        let label = label_of(code, unit, rows, self.state, risen, word);
         self.state = next_state(code, self.state, label);
         self.differential = risen;
         self.sent += 1;

@@ -100,21 +100,12 @@ pub fn listing(text: &[u8]) -> Vec<u8> {
             let mut lines = String::from("l m q c v step\n");
             for code in codes {
                 let n = code.numbers();
-                lines += &format!(
-                    "{} {} {} {} {} {}\n",
-                    n.places,
-                    n.phases,
-                    n.offset,
-                    n.checked,
-                    n.memory,
-                    code.step()
-                );
+                lines +=
+                    &format!("{} {} {} {} {} {}\n", n.places, n.phases, n.offset, n.checked, n.memory, code.step());
             }
             lines.into_bytes()
         }
-        Err(fault) => {
-            format!("line column number\n{} {} {}\n", fault.line, fault.column, fault.number).into_bytes()
-        }
+        Err(fault) => format!("line column number\n{} {} {}\n", fault.line, fault.column, fault.number).into_bytes(),
     }
 }
 

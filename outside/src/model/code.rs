@@ -40,7 +40,7 @@ pub struct Code {
     turns: [bool; 16],
     /// The label bits that pick the differential rows, the lowest first, and how many there are.
     differential: [usize; 4],
-    pub(super) differentials: usize,
+    differentials: usize,
     step: u8,
 }
 
@@ -102,7 +102,7 @@ impl Code {
         let places = numbers.places as usize;
         let width = bits * places - numbers.offset as usize;
         let checked = numbers.checked as usize;
-        if checked < 1 || checked > 3 || checked > width - 1 {
+        if !(1..=3).contains(&checked) || checked > width - 1 {
             return limit(4);
         }
         if numbers.memory < 1 || numbers.memory > 8 {
@@ -138,9 +138,9 @@ impl Code {
         }
         // The greatest checked turning bit decides the exponent of the step.
         let mut exponent = 0;
-        for j in 0..bits {
-            if turning[j] <= checked {
-                exponent = if numbers.h[turning[j]].count_ones() % 2 == 0 { j } else { j + 1 };
+        for (j, &bit) in turning[..bits].iter().enumerate() {
+            if bit <= checked {
+                exponent = j + numbers.h[bit].count_ones() as usize % 2;
             }
         }
         let mut differential = [0; 4];
@@ -148,15 +148,7 @@ impl Code {
         if exponent < bits && differential[0] == 0 {
             return Err(Flaw { number: 5, column: 0 });
         }
-        Ok(Code {
-            numbers,
-            width,
-            rows,
-            turns,
-            differential,
-            differentials: bits - exponent,
-            step: 1 << exponent,
-        })
+        Ok(Code { numbers, width, rows, turns, differential, differentials: bits - exponent, step: 1 << exponent })
     }
 
     pub fn numbers(&self) -> Numbers {
