@@ -39,7 +39,14 @@ pub(crate) fn risen(code: Code, unit: u8, rows: &[Row], differential: u8, word: 
 }
 
 // The label of the word, from the differential number after it.
-pub(crate) fn label_of(code: Code, unit: u8, rows: &[Row], state: State, risen: u8, word: Word) -> Label
+pub(crate) fn label_of(
+    code: Code,
+    unit: u8,
+    rows: &[Row],
+    state: State,
+    risen: u8,
+    word: Word,
+) -> Label
     requires unit { ⌜ unit ≡ step (code .numbers) ⌝ }
     requires rows { ⌜ now rows ≡ labelRows (code .numbers) ⌝ }
     requires word { ⌜ word .0 < 2 ^ 15 ⌝ }
