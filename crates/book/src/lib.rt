@@ -1,4 +1,7 @@
 // A book of codes: its text is read column by column and line by line, and the first fault refuses it.
+
+#![tactic(auto)]
+
 mod columns;
 mod fault;
 mod line;

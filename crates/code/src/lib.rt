@@ -1,4 +1,7 @@
 // Codes within their limits: labels, data words and phases, the mapper and the step.
+
+#![tactic(auto)]
+
 mod differential;
 mod flaw;
 mod limits;

@@ -1,4 +1,7 @@
 // Worked examples of codes, steps, bursts and receptions, proved of the definitions in one statement.
+
+#![tactic(auto)]
+
 ghost use Rattle.std.specs.Prelude.{◌≡◌};
 ghost use Rattle.examples.specs.Examples.{Examples, one_place_code};
 

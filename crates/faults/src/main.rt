@@ -2,6 +2,9 @@
 // them. A line is what is due, a tab, and the text; what is due is `ok COUNT`, or the number, line and column of the
 // fault. In the text stand \n, \r, \t, \\ and \xHH for the bytes that they name. Lines that begin with # are comments.
 // Prints what came instead for each text that differs, and then how many texts there are and how many differ.
+
+#![tactic(auto)]
+
 ghost use Rattle.std.specs.Prelude.{◌<◌, length, IfSome};
 
 use book::{Book, Fault};

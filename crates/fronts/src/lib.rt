@@ -1,4 +1,7 @@
 // Scores, and the fronts that give them: from the reading of one place to a score of each phase.
+
+#![tactic(auto)]
+
 mod front;
 mod lost;
 mod plain;

@@ -1,5 +1,8 @@
 // The library as C calls it: plain structs that the caller owns, and numbers in the place of enums. The header
 // include/kamzhules.h declares the same.
+
+#![tactic(auto)]
+
 mod cells;
 mod codes;
 mod fronts;

@@ -1,4 +1,7 @@
 // The bytes that tell the steps of a book's codes, or why its text is refused.
+
+#![tactic(auto)]
+
 mod lines;
 mod rows;
 mod steps;

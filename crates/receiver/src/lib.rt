@@ -1,4 +1,7 @@
 // The receiver: scored readings become data words. It finds the least path over the cells that its caller lends.
+
+#![tactic(auto)]
+
 mod calls;
 mod cell;
 mod entering;

@@ -1,8 +1,8 @@
 -- A burst that is read clean comes back as sent.
-use Rattle.std.specs.Prelude.{◌≡◌, ℕ, zero, suc, ◌+◌, ◌^◌, ◌<◌, ◌≤◌, Bool, List, [], ◌∷◌, length, take}
+use Rattle.std.specs.Prelude.{◌≡◌, ℕ, ◌+◌, ◌^◌, ◌<◌, ◌≤◌, Bool, List, [], ◌∷◌, length, take}
 use Rattle.reception.specs.Accepted.{IsCode}
 use Rattle.reception.specs.Answer.{Answer, delivered, Answers}
-use Rattle.reception.specs.Block.{Block, block, delivers, capacity, open_refusal}
+use Rattle.reception.specs.Block.{block, delivers, capacity, open_refusal}
 use Rattle.reception.specs.Front.{FrontMeaning}
 use Rattle.reception.specs.Reading.{clean_reading}
 use Rattle.reception.specs.Turnings.{Run, takes_of, takens, block_after}

@@ -1,5 +1,5 @@
 -- Readings of whole symbols: those of the places, one behind another, W words each.
-use Rattle.std.specs.Prelude.{◌≡◌, ℕ, zero, suc, ◌*◌, ◌<◌, Bool, true, cond, ◌&&◌, eqb, List, [], ◌∷◌, ◌++◌, length, take, drop}
+use Rattle.std.specs.Prelude.{ℕ, zero, suc, ◌<◌, Bool, true, ◌&&◌, List, [], ◌∷◌, ◌++◌, take, drop}
 use Rattle.reception.specs.Front.{FrontMeaning}
 
 -- The reading of place a.

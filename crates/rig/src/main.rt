@@ -1,5 +1,8 @@
 // Reads a book, an empty line and calls from standard input, plays the calls and prints their answers.
 // A refused book is told as by `steps`, with status 1.
+
+#![tactic(auto)]
+
 use anyhow::anyhow;
 use book::Book;
 use listing::listing;

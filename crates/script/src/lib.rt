@@ -1,4 +1,7 @@
 // The calls that the program `rig` plays: each is read from a line of text and played on a sender.
+
+#![tactic(auto)]
+
 mod call;
 mod lines;
 mod player;

@@ -1,5 +1,8 @@
 // Reads a book of codes from standard input and prints their steps, or why the book is refused.
 // Ends with status 1 on a refusal. Reads at most one byte more than a book may have, so that no input makes it run on.
+
+#![tactic(auto)]
+
 ghost use Rattle.std.specs.Prelude.{◌≤◌, length, IfOk};
 
 use anyhow::anyhow;

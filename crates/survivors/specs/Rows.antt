@@ -1,5 +1,5 @@
 -- Rows of survivors: row t has, for each state, the best path of t symbols that ends there.
-use Rattle.std.specs.Prelude.{◌≡◌, ℕ, suc, ◌+◌, ◌*◌, ◌^◌, ◌<◌, ◌≤◌, true, List, length, bit_xor, slice_index_or}
+use Rattle.std.specs.Prelude.{◌≡◌, ℕ, suc, ◌+◌, ◌*◌, ◌^◌, ◌<◌, true, List, length, bit_xor, slice_index_or}
 use Rattle.reception.specs.Worth.{Scores, label_worth}
 use Rattle.survivors.specs.Best.{Survivor, Best}
 use Rattle.trellis.specs.declared.Numbers.{Numbers}

@@ -1,6 +1,9 @@
 // Reads the table of published codes from standard input and holds the library to it: each row is loaded as a book of
 // one code, whose step must be the printed angle of transparency, or is refused since its parity bit is differential.
 // Prints each row for which neither holds and what came instead, and then how many rows there are of each kind.
+
+#![tactic(auto)]
+
 use book::{Book, Fault};
 use code::Code;
 use std::alloc::{AllocError, Global};

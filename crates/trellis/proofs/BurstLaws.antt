@@ -1,24 +1,22 @@
 -- The labels that are sent for a list of words are the one burst of those words.
-use Rattle.std.proofs.Common.{◌≡◌, ℕ, zero, suc, ◌+◌, ◌-◌, ◌*◌, ◌/◌, ◌%◌, ◌^◌, ◌<◌, ◌≤◌, Bool, true, false, cond, ◌&&◌, ◌||◌, eqb, leb, ◌⊎◌, List, [], ◌∷◌, length, get_or, drop, sym, refl, ap, ◌∙◌, subst, inl, inr, ⊎_elim, suc-le-suc, add-one, arith}
+use Rattle.std.proofs.Common.{◌≡◌, ℕ, zero, suc, ◌-◌, ◌*◌, ◌/◌, ◌%◌, ◌^◌, ◌<◌, ◌≤◌, Bool, true, false, ◌&&◌, ◌||◌, eqb, leb, List, [], ◌∷◌, length, drop, sym, refl, ap, ◌∙◌, subst, ⊎_elim, suc-le-suc, arith}
 use native.Mathlib.Nat.{mod-mod}
-use lib.Count.{ones}
 use Rattle.std.proofs.lemmas.Bool.{and_parts, or_cases, eqb-true, eqb-false, leb-true, both_ways, cond_both}
 use Rattle.trellis.specs.declared.Numbers.{Numbers}
-use Rattle.trellis.specs.declared.Row.{Row}
-use Rattle.trellis.specs.Burst.{labels_from, Carry, Rises, Burst, BurstLaw}
-use Rattle.trellis.specs.Label.{gather, turns_by, Agree}
-use Rattle.trellis.specs.Limits.{unless, limit_fault, is_first, polynomial_fault, parity_turns}
+use Rattle.trellis.specs.Burst.{labels_from, Carry, Rises, BurstLaw}
+use Rattle.trellis.specs.Label.{turns_by}
+use Rattle.trellis.specs.Limits.{limit_fault, is_first, polynomial_fault, parity_turns}
 use Rattle.trellis.specs.Numbers.{phase_bits, label_bits, polynomials}
 use Rattle.trellis.specs.Parity.{next_state}
 use Rattle.trellis.specs.Path.{Leads}
-use Rattle.trellis.specs.Precoder.{differential, label_of, placed, risen}
+use Rattle.trellis.specs.Precoder.{differential, label_of, risen}
 use Rattle.trellis.specs.Rows.{label_rows}
 use Rattle.trellis.specs.Step.{turning_row, turning_bit, checked_turns, exponent_at, step_exponent, step, differential_bits}
 use Rattle.trellis.proofs.Distinct.{label_length}
 use Rattle.trellis.proofs.Gather.{count}
 use Rattle.trellis.proofs.MapperLaws.{bits_of, set_rows}
 use Rattle.trellis.proofs.OneLabel.{head_free, Carries, carries, carries_sole}
-use Rattle.trellis.proofs.Sets.{Within, within, unless-none, every_set, at_set, below, below_at}
+use Rattle.trellis.proofs.Sets.{within, unless-none, at_set, below, below_at}
 
 -- every set, at every exponent of a step: the differential rows are as many as the levels left, and the first row is
 -- one of them only where the parity bit turns

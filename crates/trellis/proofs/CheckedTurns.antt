@@ -1,13 +1,13 @@
 -- The polynomials of the checked turning bits of a code.
-use Rattle.std.proofs.Common.{◌≡◌, ℕ, zero, suc, ◌+◌, ◌-◌, ◌*◌, ◌/◌, ◌%◌, ◌^◌, ◌<◌, ◌≤◌, Bool, true, false, cond, not, ◌&&◌, eqb, ltb, leb, ◌⊎◌, List, [], ◌∷◌, map, length, get_or, take, drop, Some, None, Option, unwrap_or, sym, refl, ap, ◌∙◌, subst, inl, inr, ⊎_elim, add-zero, mul-zero, zero-add, arith}
+use Rattle.std.proofs.Common.{◌≡◌, ℕ, zero, suc, ◌+◌, ◌-◌, ◌*◌, ◌/◌, ◌%◌, ◌^◌, ◌<◌, ◌≤◌, Bool, true, false, cond, ◌&&◌, eqb, ltb, leb, List, [], ◌∷◌, map, length, get_or, take, drop, Some, None, Option, unwrap_or, sym, refl, ap, ◌∙◌, subst, ⊎_elim, add-zero, mul-zero, zero-add, arith}
 use lib.Bits.{bit_xor}
 use Rattle.std.proofs.lemmas.List.{length-map, length-take-le, get_or-map, get_or-take}
-use Rattle.std.proofs.lemmas.Bool.{and_parts, eqb-true, leb-true, ltb-true, cases_Bool, cond-true, cond-false, true≢false}
+use Rattle.std.proofs.lemmas.Bool.{and_parts, eqb-true, leb-true, cases_Bool, cond-true, cond-false, true≢false}
 use Rattle.trellis.specs.declared.Numbers.{Numbers}
 use Rattle.trellis.specs.declared.Row.{Row}
 use Rattle.trellis.specs.Label.{turns_by}
-use Rattle.trellis.specs.Limits.{unless, is_checked, is_first, is_later, is_due, limit_fault, polynomial_fault}
-use Rattle.trellis.specs.Numbers.{phase_bits, label_bits, word_bits, polynomials}
+use Rattle.trellis.specs.Limits.{is_first, is_later, is_due, limit_fault, polynomial_fault}
+use Rattle.trellis.specs.Numbers.{phase_bits, word_bits, polynomials}
 use Rattle.trellis.specs.Parity.{syndrome}
 use Rattle.trellis.specs.Rows.{label_rows}
 use Rattle.trellis.specs.Step.{turning_row, turning_bit, checked_turns}
@@ -15,7 +15,7 @@ use Rattle.trellis.proofs.BurstLaws.{turns_below}
 use Rattle.trellis.proofs.Distinct.{label_length}
 use Rattle.trellis.proofs.MapperLaws.{bits_of, set_rows}
 use Rattle.trellis.proofs.Polynomials.{AllBelow, polynomials-below}
-use Rattle.trellis.proofs.Sets.{Within, within, unless-none, every_set, at_set, below, below_at}
+use Rattle.trellis.proofs.Sets.{within, unless-none, at_set, below, below_at}
 use Rattle.trellis.proofs.Syndromes.{marks, marks-none}
 
 -- h0 to hc

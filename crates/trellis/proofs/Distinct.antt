@@ -1,8 +1,8 @@
 -- Different labels of one code have different phases: the phases give back the bits of each kind of row.
-use Rattle.std.proofs.Common.{◌≡◌, ℕ, zero, suc, ◌+◌, ◌-◌, ◌*◌, ◌/◌, ◌%◌, ◌^◌, ◌<◌, ◌≤◌, Bool, true, false, cond, ◌&&◌, ◌||◌, eqb, ltb, leb, ◌⊎◌, List, [], ◌∷◌, length, get_or, drop, sym, refl, ap, ◌∙◌, subst, inl, inr, ⊎_elim, add-zero, mod-eq_of_lt, one-mul, mul-zero, arith, pow_pos}
+use Rattle.std.proofs.Common.{◌≡◌, ℕ, ◌+◌, ◌-◌, ◌*◌, ◌/◌, ◌%◌, ◌^◌, ◌<◌, ◌≤◌, Bool, true, ◌&&◌, ◌||◌, eqb, ltb, leb, List, [], ◌∷◌, length, get_or, sym, refl, ap, ◌∙◌, subst, ⊎_elim, add-zero, mod-eq_of_lt, mul-zero, arith, pow_pos}
 use native.Mathlib.Nat.{mod-eq-sub-mod, eq_of_mul-eq-mul_left}
-use lib.Bits.{bit_xor, xor_zero_l, xor_lt}
-use Rattle.std.proofs.lemmas.Bool.{and_parts, or_cases, eqb-true, leb-true, ltb-true, cases_lt, cases_Bool, true≢false}
+use lib.Bits.{bit_xor, xor_lt}
+use Rattle.std.proofs.lemmas.Bool.{and_parts, or_cases, eqb-true, ltb-true, cases_lt}
 use Rattle.trellis.specs.declared.Numbers.{Numbers}
 use Rattle.trellis.specs.declared.Row.{Row}
 use Rattle.trellis.specs.Label.{gather, turns_by}
@@ -11,7 +11,7 @@ use Rattle.trellis.specs.Numbers.{label_bits}
 use Rattle.trellis.specs.Rows.{label_rows}
 use Rattle.trellis.proofs.Gather.{double, mul-below, bit_below, peel, silent, rising, picked-rising, picked-xor}
 use Rattle.trellis.proofs.MapperLaws.{bits_of, set_rows, turning-below, phase_used}
-use Rattle.trellis.proofs.Sets.{Within, every_set, at_set, below, below_at, places_bound}
+use Rattle.trellis.proofs.Sets.{Within, at_set, below, below_at}
 
 -- The kinds of pattern rows, by the places where their entries differ: [0 1 0 1] and [0 1], [0 0 1 1], [0 0 0 1].
 abbrev entry1 : Row → ℕ

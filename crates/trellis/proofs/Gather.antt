@@ -1,10 +1,10 @@
 -- Laws of the bits of a label that some rows mark: read (`gather`), replaced (`put`), and added by exclusive or (`picked`).
-use Rattle.std.proofs.Common.{◌≡◌, ℕ, zero, suc, ◌+◌, ◌-◌, ◌*◌, ◌/◌, ◌%◌, ◌^◌, ◌<◌, ◌≤◌, Bool, true, false, cond, ◌&&◌, ◌||◌, eqb, leb, ◌⊎◌, List, [], ◌∷◌, length, sym, refl, ap, ◌∙◌, subst, inl, inr, ⊎_elim, mod-lt, mul_assoc, mul_comm, one-mul, pow-suc, mul-zero, zero-mul, mul-one, mul-add, add-one, arith, pow_pos}
+use Rattle.std.proofs.Common.{◌≡◌, ℕ, suc, ◌+◌, ◌*◌, ◌/◌, ◌%◌, ◌^◌, ◌<◌, ◌≤◌, Bool, true, false, cond, ◌&&◌, eqb, List, [], ◌∷◌, length, sym, refl, ap, ◌∙◌, ⊎_elim, mul_assoc, mul_comm, one-mul, pow-suc, mul-zero, zero-mul, mul-add, add-one, arith, pow_pos}
 use lib.Bits.{bit_xor, xor_comm, xor_assoc, xor_zero_l, xor_shifted}
 use lib.Pow.{mod-pow-add}
 use Rattle.std.proofs.lemmas.Bool.{and_parts, eqb-true, cases_Bool, cases_eq, cond-true, cond-false, both_ways}
 use Rattle.trellis.specs.declared.Row.{Row}
-use Rattle.trellis.specs.Label.{gather, put, Agree}
+use Rattle.trellis.specs.Label.{gather, put}
 use Rattle.trellis.specs.Mapper.{picked}
 
 -- how many rows are marked

@@ -1,11 +1,11 @@
 -- The differential bits are the turning bits from one level on.
-use Rattle.std.proofs.Common.{◌≡◌, ℕ, zero, suc, ◌+◌, ◌-◌, ◌*◌, ◌/◌, ◌%◌, ◌^◌, ◌<◌, ◌≤◌, Bool, true, false, cond, ◌&&◌, eqb, leb, ◌⊎◌, List, [], ◌∷◌, sym, refl, ap, ◌∙◌, subst, inl, inr, ⊎_elim, add-zero, arith, pow_pos, shr-shr}
+use Rattle.std.proofs.Common.{◌≡◌, ℕ, zero, suc, ◌+◌, ◌*◌, ◌/◌, ◌%◌, ◌^◌, ◌<◌, ◌≤◌, Bool, true, false, cond, List, [], ◌∷◌, sym, refl, ap, ◌∙◌, ⊎_elim, add-zero, arith, pow_pos, shr-shr}
 use native.Mathlib.Nat.{pow-le-pow_right, zero-div}
 use lib.Pow.{pow-lt}
-use Rattle.std.proofs.lemmas.Bool.{and_parts, eqb-true, leb-true, leb-false, le-leb, lt-leb, cases_Bool, cond-true, cond-false}
+use Rattle.std.proofs.lemmas.Bool.{and_parts, eqb-true, le-leb, lt-leb, cases_Bool, cond-true, cond-false}
 use Rattle.trellis.specs.declared.Row.{Row}
 use Rattle.trellis.specs.Label.{gather, put, turns_by}
-use Rattle.trellis.proofs.Gather.{double, low_bit, high_bits, bit_below, mod_double, rising, gather_marked, gather_other, put_marked, put_other}
+use Rattle.trellis.proofs.Gather.{low_bit, high_bits, bit_below, mod_double, rising, gather_marked, gather_other, put_marked, put_other}
 use Rattle.trellis.proofs.MapperLaws.{turn}
 
 -- Two marks that agree on every row.

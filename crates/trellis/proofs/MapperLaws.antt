@@ -1,16 +1,14 @@
 -- The laws of the mapper: the turning number, what turns with it, and that different labels have different phases.
-use Rattle.std.proofs.Common.{◌≡◌, ℕ, zero, suc, ◌+◌, ◌-◌, ◌*◌, ◌/◌, ◌%◌, ◌^◌, ◌<◌, ◌≤◌, Bool, true, false, cond, ◌&&◌, ◌||◌, eqb, ltb, leb, ◌⊎◌, List, [], ◌∷◌, length, drop, sym, refl, ap, ◌∙◌, subst, inl, inr, ⊎_elim, add-zero, mod-lt, mod-eq_of_lt, one-mul, arith}
-use native.Mathlib.Nat.{add_right_comm, mod-mod, mod-add-mod, add-mod-mod}
-use lib.Bits.{bit_xor}
+use Rattle.std.proofs.Common.{◌≡◌, ℕ, ◌+◌, ◌%◌, ◌^◌, ◌<◌, Bool, true, cond, ◌&&◌, eqb, ltb, List, drop, sym, refl, ap, ◌∙◌, subst, one-mul, arith}
+use native.Mathlib.Nat.{add_right_comm, mod-mod, mod-add-mod}
 use Rattle.std.proofs.lemmas.Bool.{and_parts, eqb-true, lt-ltb, cond-true}
 use Rattle.trellis.specs.declared.Numbers.{Numbers}
 use Rattle.trellis.specs.declared.Row.{Row}
-use Rattle.trellis.specs.Label.{gather, put, turns_by}
+use Rattle.trellis.specs.Label.{turns_by}
 use Rattle.trellis.specs.Mapper.{turning_number, picked, entry_at, patterns, phase_at, turned_label, Turns}
-use Rattle.trellis.specs.Numbers.{phase_bits, label_bits}
 use Rattle.trellis.specs.Rows.{signal_rows, label_rows}
 use Rattle.trellis.proofs.Gather.{count, gather-below, gather-put, silent, picked-put, rising, picked-rising}
-use Rattle.trellis.proofs.Sets.{Within, every_set, at_set, below, below_at, places_bound}
+use Rattle.trellis.proofs.Sets.{Within, at_set, below, below_at, places_bound}
 
 -- the rows of a signal set, by its three numbers
 abbrev pub bits_of : ℕ → ℕ

@@ -1,7 +1,7 @@
 -- One symbol of a burst: the label of a word is allowed and carries the word, and it is the only such label.
-use Rattle.std.proofs.Common.{◌≡◌, ℕ, zero, suc, ◌+◌, ◌-◌, ◌*◌, ◌/◌, ◌%◌, ◌^◌, ◌<◌, ◌≤◌, Bool, true, false, cond, not, ◌⊎◌, List, [], ◌∷◌, length, drop, sym, refl, ap, ◌∙◌, subst, inl, inr, ⊎_elim, one-mul, zero-mul, arith}
-use lib.Bits.{bit_xor, xor_zero_l, xor_mod, xor_assoc, xor_comm}
-use Rattle.std.proofs.lemmas.Bool.{cases_Bool, cases_eq, not-true, cond-true, cond-false, true≢false, both_ways}
+use Rattle.std.proofs.Common.{◌≡◌, ℕ, ◌+◌, ◌*◌, ◌/◌, ◌%◌, ◌^◌, ◌<◌, Bool, true, false, cond, not, List, [], ◌∷◌, length, drop, sym, refl, ap, ◌∙◌, subst, ⊎_elim, one-mul, zero-mul, arith}
+use lib.Bits.{bit_xor, xor_mod}
+use Rattle.std.proofs.lemmas.Bool.{cases_Bool, cases_eq, not-true, true≢false}
 use Rattle.trellis.specs.declared.Row.{Row}
 use Rattle.trellis.specs.Label.{gather, put, Agree}
 use Rattle.trellis.specs.Parity.{syndrome, Allowed}

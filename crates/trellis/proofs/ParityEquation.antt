@@ -1,11 +1,10 @@
 -- Paths as one equation: the syndromes of a path, each doubled as often as its symbol is late, add up to its states.
-use Rattle.std.proofs.Common.{◌≡◌, ℕ, zero, suc, ◌+◌, ◌-◌, ◌*◌, ◌/◌, ◌%◌, ◌^◌, ◌<◌, ◌≤◌, ◌⊎◌, List, [], ◌∷◌, map, length, get_or, set, replicate, sym, refl, ap, ◌∙◌, subst, inl, inr, ⊎_elim, add-zero, mod-lt, mod-eq_of_lt, mul_assoc, mul_comm, one-mul, pow-suc, mul-zero, div-add-mod', zero-add, zero-mul, add-one, arith, pow_pos, pow-add, shr-shr}
+use Rattle.std.proofs.Common.{◌≡◌, ℕ, zero, suc, ◌+◌, ◌*◌, ◌/◌, ◌%◌, ◌^◌, ◌<◌, List, [], ◌∷◌, map, length, get_or, set, replicate, sym, refl, ap, ◌∙◌, add-zero, mod-lt, mul_assoc, mul_comm, one-mul, div-add-mod', zero-add, zero-mul, add-one, arith, pow_pos, shr-shr}
 use native.Mathlib.Nat.{div-eq_of_lt}
-use lib.Bits.{bit_xor, xor_comm, xor_assoc, xor_zero_l, xor_zero_r, xor_self, xor_shr, xor_mod, xor_block}
+use lib.Bits.{bit_xor, xor_comm, xor_assoc, xor_zero_r, xor_self, xor_shr, xor_block}
 use lib.Count.{ones, ones_in, ones_step, ones_cat}
 use lib.Pow.{shl-shr, mod-pow-add}
-use Rattle.std.proofs.lemmas.Nat.{div-mul-add}
-use Rattle.trellis.specs.Parity.{syndrome, Allowed, next_state}
+use Rattle.trellis.specs.Parity.{syndrome}
 use Rattle.trellis.specs.Path.{Leads}
 use Rattle.trellis.proofs.Gather.{double, bit_below, xor_swap}
 use Rattle.trellis.proofs.OneLabel.{xor_parity}

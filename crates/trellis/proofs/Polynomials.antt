@@ -1,10 +1,10 @@
 -- The polynomials of an accepted code are below 2^(v+1), and so are its syndromes.
-use Rattle.std.proofs.Common.{◌≡◌, ℕ, zero, suc, ◌+◌, ◌*◌, ◌/◌, ◌%◌, ◌^◌, ◌<◌, ◌≤◌, Bool, true, false, ◌&&◌, eqb, ltb, leb, List, [], ◌∷◌, Some, None, Option, unwrap_or, sym, refl, ap, arith, pow_pos}
+use Rattle.std.proofs.Common.{◌≡◌, ℕ, ◌+◌, ◌*◌, ◌/◌, ◌%◌, ◌^◌, ◌<◌, ◌≤◌, Bool, true, ◌&&◌, eqb, ltb, leb, List, [], ◌∷◌, Some, None, Option, unwrap_or, arith, pow_pos}
 use native.Mathlib.Nat.{pow-le-pow_right}
 use lib.Bits.{xor_lt}
 use Rattle.std.proofs.lemmas.Bool.{and_parts, ltb-true, leb-true}
 use Rattle.trellis.specs.declared.Numbers.{Numbers}
-use Rattle.trellis.specs.Limits.{unless, is_first, is_later, is_due, polynomial_fault, limit_fault}
+use Rattle.trellis.specs.Limits.{is_first, is_later, is_due, polynomial_fault, limit_fault}
 use Rattle.trellis.specs.Numbers.{polynomials}
 use Rattle.trellis.specs.Parity.{syndrome}
 use Rattle.trellis.proofs.Gather.{bit_below, mul-below}

@@ -1,18 +1,18 @@
 -- The turning number of a label and the label of a turning number, by the places of the turning bits.
-use Rattle.std.proofs.Common.{◌≡◌, ℕ, zero, suc, ◌+◌, ◌-◌, ◌*◌, ◌/◌, ◌%◌, ◌^◌, ◌<◌, ◌≤◌, Bool, true, false, cond, ◌&&◌, eqb, ltb, leb, ◌⊎◌, List, [], ◌∷◌, length, sym, refl, ap, ◌∙◌, subst, inl, inr, ⊎_elim, add-zero, mul_assoc, mul_comm, pow-suc, mul-zero, zero-add, zero-mul, mul-add, add-one, arith, shr-shr}
-use native.Mathlib.Nat.{mod-mod, pow-le-pow_right}
+use Rattle.std.proofs.Common.{◌≡◌, ℕ, zero, suc, ◌+◌, ◌-◌, ◌*◌, ◌/◌, ◌%◌, ◌^◌, ◌<◌, Bool, true, false, cond, ◌&&◌, eqb, ltb, List, [], ◌∷◌, length, sym, refl, ap, ◌∙◌, ⊎_elim, add-zero, mul_assoc, mul_comm, pow-suc, mul-zero, zero-add, zero-mul, mul-add, add-one, arith, shr-shr}
+use native.Mathlib.Nat.{mod-mod}
 use lib.Bits.{bit_xor, xor_assoc, xor_self, xor_zero_l, xor_zero_r, xor_mod, xor_shr}
 use Rattle.std.proofs.lemmas.Bool.{and_parts, eqb-true, ltb-true, cases_Bool, cond-true, cond-false, eq-eqb, both_ways}
 use Rattle.trellis.specs.declared.Numbers.{Numbers}
 use Rattle.trellis.specs.declared.Row.{Row}
 use Rattle.trellis.specs.Label.{gather, put, turns_by}
-use Rattle.trellis.specs.Mapper.{turning_number, picked, entry_at, patterns, phase_at, symbol_of}
+use Rattle.trellis.specs.Mapper.{turning_number, picked, entry_at, patterns, symbol_of}
 use Rattle.trellis.specs.Numbers.{phase_bits}
 use Rattle.trellis.specs.Rows.{label_rows}
 use Rattle.trellis.specs.Step.{turning_row, turning_bit}
 use Rattle.trellis.proofs.Gather.{double, low_bit, high_bits, bit_below, mod_double, gather_marked, gather_other, put_marked, put_other}
 use Rattle.trellis.proofs.MapperLaws.{bits_of, set_rows}
-use Rattle.trellis.proofs.Sets.{Within, every_set, at_set, below, below_at}
+use Rattle.trellis.proofs.Sets.{Within, at_set, below, below_at}
 
 -- the places of the marked rows, counted from p
 abbrev places_from : (Row → Bool) → ℕ → List Row → List ℕ

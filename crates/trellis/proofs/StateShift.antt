@@ -1,5 +1,5 @@
 -- A polynomial that is added to every syndrome of a path shifts its states by one constant.
-use Rattle.std.proofs.Common.{◌≡◌, ℕ, zero, suc, ◌+◌, ◌*◌, ◌/◌, ◌%◌, ◌^◌, ◌<◌, ◌≤◌, List, [], ◌∷◌, map, sym, refl, ap, ◌∙◌, subst, arith}
+use Rattle.std.proofs.Common.{◌≡◌, ℕ, zero, suc, ◌+◌, ◌*◌, ◌/◌, ◌%◌, ◌^◌, ◌<◌, List, [], ◌∷◌, map, sym, refl, ap, ◌∙◌, subst, arith}
 use lib.Bits.{bit_xor, xor_comm, xor_lt, xor_shr}
 use lib.Count.{ones, ones_in, ones_step}
 use Rattle.trellis.specs.Parity.{syndrome, next_state}

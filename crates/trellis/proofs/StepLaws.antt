@@ -1,27 +1,26 @@
 -- The step is the unit of the turnings that a code cannot tell apart, and the only power of two that is.
-use Rattle.std.proofs.Common.{◌≡◌, ℕ, zero, suc, ◌+◌, ◌-◌, ◌*◌, ◌/◌, ◌%◌, ◌^◌, ◌<◌, ◌≤◌, Bool, true, false, cond, ltb, ◌⊎◌, List, [], ◌∷◌, map, length, get_or, sym, refl, ap, ◌∙◌, subst, inl, inr, ⊎_elim, mod-lt, mod-eq_of_lt, add_comm, arith, pow_pos}
+use Rattle.std.proofs.Common.{◌≡◌, ℕ, ◌+◌, ◌-◌, ◌*◌, ◌%◌, ◌^◌, ◌<◌, ◌≤◌, ltb, List, [], ◌∷◌, map, length, sym, refl, ap, ◌∙◌, ⊎_elim, mod-lt, mod-eq_of_lt, add_comm, arith, pow_pos}
 use native.Mathlib.Nat.{mod_self, mod-add-mod}
 use lib.Bits.{bit_xor, xor_lt}
 use lib.Pow.{pow-lt}
 use Rattle.std.proofs.lemmas.List.{length-map}
 use Rattle.std.proofs.lemmas.Bool.{cases_lt, cases_eq, cond-false, le-ltb}
 use Rattle.trellis.specs.declared.Numbers.{Numbers}
-use Rattle.trellis.specs.Mapper.{phase_at, symbol_of, turning_number, turned_label}
+use Rattle.trellis.specs.Mapper.{phase_at, turning_number, turned_label}
 use Rattle.trellis.specs.Numbers.{label_bits, polynomials}
 use Rattle.trellis.specs.Parity.{syndrome}
-use Rattle.trellis.specs.Path.{Leads}
 use Rattle.trellis.specs.Label.{put, turns_by}
 use Rattle.trellis.specs.Rows.{label_rows}
 use Rattle.trellis.specs.Step.{step_exponent, step}
-use Rattle.trellis.specs.Transparency.{Labels, IsPath, Turned, Correspondence, Betrayed, Unit-of, Transparency}
-use Rattle.trellis.specs.Words.{word_between, words_of}
+use Rattle.trellis.specs.Transparency.{Labels, IsPath, Turned, Correspondence, Betrayed, Transparency}
+use Rattle.trellis.specs.Words.{words_of}
 use Rattle.trellis.proofs.CheckedTurns.{turning_polynomials}
 use Rattle.trellis.proofs.Distinct.{distinct}
 use Rattle.trellis.proofs.MapperLaws.{turns, phases_some}
 use Rattle.trellis.proofs.ParityEquation.{parity_bit, syndromes, path_parity, parity_path}
 use Rattle.trellis.proofs.StateShift.{Bounded, leads_shifted}
 use Rattle.trellis.proofs.Turned.{Accepted, exponent_is, turned-below, turned-back, syndrome-turned, word_turned, bare_below, bare_syndrome, bare_turned, xor-back}
-use Rattle.trellis.proofs.Turnings.{Change, change, Told, tell}
+use Rattle.trellis.proofs.Turnings.{change, tell}
 
 map-map : (f g : ℕ → ℕ) (xs : List ℕ) → map f (map g xs) ≡ map (λ x. f (g x)) xs
 map-map f g [] = refl

@@ -1,11 +1,11 @@
 -- Laws of the syndrome: of numbers that are split, and of a label whose marked bits are replaced.
-use Rattle.std.proofs.Common.{◌≡◌, ℕ, zero, suc, ◌+◌, ◌-◌, ◌*◌, ◌/◌, ◌%◌, ◌^◌, ◌<◌, ◌≤◌, Bool, true, false, cond, ◌⊎◌, List, [], ◌∷◌, length, get_or, sym, refl, ap, ◌∙◌, subst, inl, inr, ⊎_elim, add-zero, mul_assoc, mul_comm, one-mul, mul-zero, zero-add, zero-mul, mul-one, arith}
-use lib.Bits.{bit_xor, xor_comm, xor_assoc, xor_zero_l, xor_zero_r, xor_self}
+use Rattle.std.proofs.Common.{◌≡◌, ℕ, zero, suc, ◌+◌, ◌*◌, ◌/◌, ◌%◌, ◌^◌, ◌<◌, ◌≤◌, Bool, true, false, cond, List, [], ◌∷◌, length, get_or, sym, refl, ap, ◌∙◌, ⊎_elim, add-zero, mul_assoc, one-mul, zero-mul, arith}
+use lib.Bits.{bit_xor, xor_comm, xor_assoc, xor_zero_r, xor_self}
 use Rattle.std.proofs.lemmas.Bool.{cases_Bool, cases_eq, cond-true, cond-false}
 use Rattle.trellis.specs.declared.Row.{Row}
 use Rattle.trellis.specs.Label.{gather, put, Agree}
 use Rattle.trellis.specs.Parity.{syndrome}
-use Rattle.trellis.proofs.Gather.{count, low_bit, high_bits, double, bit_below, mod_double, gather-put, gather_marked, gather_other, put_marked, put_other, put-below, xor_swap}
+use Rattle.trellis.proofs.Gather.{count, low_bit, high_bits, double, bit_below, mod_double, gather-put, put_marked, put_other, put-below}
 use Rattle.trellis.proofs.OneLabel.{agree-put, put_sole}
 
 pub syndrome-zero : (ps : List ℕ) → syndrome ps 0 ≡ 0

@@ -1,7 +1,7 @@
 -- Turned labels of an accepted code: their number, their syndrome, and the data words between them.
-use Rattle.std.proofs.Common.{◌≡◌, ℕ, zero, suc, ◌+◌, ◌-◌, ◌*◌, ◌/◌, ◌%◌, ◌^◌, ◌<◌, ◌≤◌, Bool, true, false, cond, eqb, List, [], ◌∷◌, map, length, get_or, sym, refl, ap, ◌∙◌, subst, add-zero, add_assoc, mod-lt, mod-eq_of_lt, mul_comm, div-add-mod', zero-add, arith, pow_pos}
-use native.Mathlib.Nat.{add-mul-div_right, mod-mod, mod-add-mod, add-mod-mod, add-mul-mod_self_right, zero-mod, zero-div}
-use lib.Bits.{bit_xor, xor_comm, xor_assoc, xor_zero_r, xor_self}
+use Rattle.std.proofs.Common.{◌≡◌, ℕ, ◌+◌, ◌-◌, ◌*◌, ◌/◌, ◌%◌, ◌^◌, ◌<◌, Bool, true, false, cond, eqb, List, [], ◌∷◌, length, get_or, sym, refl, ap, ◌∙◌, subst, add-zero, add_assoc, mod-lt, mod-eq_of_lt, div-add-mod', zero-add, arith, pow_pos}
+use native.Mathlib.Nat.{add-mul-div_right, mod-mod, mod-add-mod, add-mod-mod, add-mul-mod_self_right}
+use lib.Bits.{bit_xor, xor_assoc, xor_zero_r, xor_self}
 use lib.Count.{ones}
 use lib.Pow.{field, mod-mod-pow}
 use Rattle.std.proofs.lemmas.Bool.{cond-true, cond-false, eq-eqb, ne_eqb}
@@ -19,11 +19,11 @@ use Rattle.trellis.specs.Words.{rise, word_between}
 use Rattle.trellis.proofs.BurstLaws.{Sends, sends, exponent_bound}
 use Rattle.trellis.proofs.CheckedTurns.{checked_polynomials, turning_polynomials, Checked, checked}
 use Rattle.trellis.proofs.Distinct.{phases_power}
-use Rattle.trellis.proofs.Gather.{count, gather-put, gather-below, put-below}
+use Rattle.trellis.proofs.Gather.{gather-put, gather-below, put-below}
 use Rattle.trellis.proofs.Levels.{gather_from, put_from}
 use Rattle.trellis.proofs.MapperLaws.{turns_well_lem, turning-below}
 use Rattle.trellis.proofs.Sets.{Within, within}
-use Rattle.trellis.proofs.Syndromes.{marks, syndrome-zero, syndrome_low, syndrome-put, put-put, put-gather}
+use Rattle.trellis.proofs.Syndromes.{syndrome-zero, syndrome_low, syndrome-put, put-put, put-gather}
 use Rattle.trellis.proofs.Turnings.{exponent_of}
 
 -- An accepted code, with what is known of it.

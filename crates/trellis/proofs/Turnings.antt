@@ -1,7 +1,7 @@
 -- What a turning by r does to the syndromes of the checked turning bits, whose polynomials are ps.
-use Rattle.std.proofs.Common.{◌≡◌, ℕ, zero, suc, ◌+◌, ◌-◌, ◌*◌, ◌/◌, ◌%◌, ◌^◌, ◌<◌, ◌≤◌, cond, ◌⊎◌, List, [], ◌∷◌, map, length, get_or, set, replicate, sym, refl, ap, ◌∙◌, subst, inl, inr, ⊎_elim, add-zero, mod-lt, mod-eq_of_lt, mul_assoc, mul_comm, add-mul, one-mul, div-add-mod', zero-mul, mul-add, add-one, arith, length-set, pow_pos, shr-shr}
-use native.Mathlib.Nat.{zero-div, add-mod-mod, zero-mod}
-use lib.Bits.{bit_xor, xor_comm, xor_assoc, xor_zero_r, xor_self}
+use Rattle.std.proofs.Common.{◌≡◌, ℕ, zero, suc, ◌+◌, ◌-◌, ◌*◌, ◌/◌, ◌%◌, ◌^◌, ◌<◌, ◌≤◌, List, [], ◌∷◌, map, length, get_or, set, replicate, sym, refl, ap, ◌∙◌, subst, ⊎_elim, add-zero, mod-eq_of_lt, mul_assoc, mul_comm, add-mul, one-mul, div-add-mod', zero-mul, add-one, arith, length-set, pow_pos}
+use native.Mathlib.Nat.{zero-div, add-mod-mod}
+use lib.Bits.{bit_xor, xor_zero_r}
 use lib.Count.{ones}
 use lib.ListN.{length-replicate}
 use lib.Pow.{mod-pow-add}

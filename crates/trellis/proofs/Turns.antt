@@ -1,15 +1,15 @@
 -- The count of checked turning bits, and whether the parity bit turns, with no search over the levels.
-use Rattle.std.proofs.Common.{◌≡◌, ℕ, zero, suc, ◌+◌, ◌-◌, ◌*◌, ◌/◌, ◌%◌, ◌<◌, ◌≤◌, Bool, true, false, cond, not, ◌&&◌, ◌||◌, eqb, leb, ◌⊎◌, get_or, sym, refl, ap, ◌∙◌, subst, inl, inr, ⊎_elim, zero-add, arith}
+use Rattle.std.proofs.Common.{◌≡◌, ℕ, ◌-◌, ◌%◌, ◌<◌, ◌≤◌, Bool, true, false, cond, not, ◌&&◌, ◌||◌, eqb, leb, get_or, sym, refl, ap, ◌∙◌, ⊎_elim, zero-add, arith}
 use lib.Count.{ones}
-use Rattle.std.proofs.lemmas.Bool.{and_parts, or_cases, eqb-true, eq-eqb, ne_eqb, leb-true, cases_eq, cond-true, cond-false, both_ways}
+use Rattle.std.proofs.lemmas.Bool.{and_parts, or_cases, eqb-true, eq-eqb, ne_eqb, leb-true, cases_eq, cond-true, cond-false}
 use Rattle.trellis.specs.declared.Numbers.{Numbers}
-use Rattle.trellis.specs.Limits.{is_checked, parity_turns}
+use Rattle.trellis.specs.Limits.{parity_turns}
 use Rattle.trellis.specs.Numbers.{phase_bits, word_bits, polynomials}
 use Rattle.trellis.specs.Step.{turning_row, turning_bit, checked_turns, exponent_at, step_exponent}
 use Rattle.trellis.specs.Sums.{turns_by_sum, parity_by_sum}
 use Rattle.trellis.proofs.CheckedTurns.{turns_of, turns_of_lem}
 use Rattle.trellis.proofs.MapperLaws.{bits_of}
-use Rattle.trellis.proofs.Sets.{Within, every_set, at_set, below, below_at}
+use Rattle.trellis.proofs.Sets.{Within, at_set, below, below_at}
 
 abbrev sum_test : ℕ → ℕ → ℕ → Bool
 sum_test l m q = below 4 (λ c. eqb (turns_of l m q c (bits_of m)) (turns_by_sum l (bits_of m) q c))

@@ -1,7 +1,7 @@
 -- The limits of a code's numbers, judged from the left. A fault is named by its column, from 1; 0 is none.
-use Rattle.std.specs.Prelude.{ℕ, ◌+◌, ◌%◌, ◌^◌, Bool, true, false, cond, not, ◌&&◌, ◌||◌, Some, None, Option, ◌==◌, nat_le, nat_lt}
+use Rattle.std.specs.Prelude.{ℕ, ◌+◌, ◌%◌, ◌^◌, Bool, cond, not, ◌&&◌, ◌||◌, Some, None, Option, ◌==◌, nat_le, nat_lt}
 use Rattle.trellis.specs.declared.Numbers.{Numbers}
-use Rattle.trellis.specs.Numbers.{phase_bits, word_bits}
+use Rattle.trellis.specs.Numbers.{word_bits}
 use Rattle.trellis.specs.Step.{step_exponent, turning_bit}
 
 -- The column, unless it is within its limits: then what the columns after it give.

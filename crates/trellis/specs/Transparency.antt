@@ -1,5 +1,5 @@
 -- What the step means: the turnings of the carrier that a code cannot tell apart.
-use Rattle.std.specs.Prelude.{◌≡◌, ℕ, ◌+◌, ◌*◌, ◌%◌, ◌^◌, ◌<◌, List, [], ◌∷◌, length, ◌≢◌}
+use Rattle.std.specs.Prelude.{◌≡◌, ℕ, ◌+◌, ◌%◌, ◌^◌, ◌<◌, List, [], ◌∷◌, length, ◌≢◌}
 use Rattle.trellis.specs.declared.Numbers.{Numbers}
 use Rattle.trellis.specs.Mapper.{phase_at}
 use Rattle.trellis.specs.Numbers.{label_bits, polynomials}

@@ -1,6 +1,8 @@
 // The definitions of trellis-coded phase modulation and their laws, over plain numbers (specs/, proofs/).
 // The only code here is the two types that the definitions share with the crates above.
 
+#![tactic(auto)]
+
 // A code as plain numbers, within its limits or not: the columns of a book. An absent polynomial is `None`.
 #[derive(Clone, Copy)]
 pub struct Numbers {
