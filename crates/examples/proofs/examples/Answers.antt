@@ -32,5 +32,5 @@ returns c =
         enough_cells = refl;
         too_few_cells = refl;
       };
-      value = c.one-place-code.ensures;
+      value = c.one_place_code.ensures;
     }

@@ -2,25 +2,25 @@ use Rattle.std.proofs.Common.{rules}
 use Rattle.book.specs.Line.{polynomial_columns}
 use Rattle.book.proofs.line.polynomial_columns.Goals as goal
 
-pub returns-in-err-h0 : goal.returns-in-err-h0
+pub returns-in_err-h0 : goal.returns-in_err-h0
 unfolding polynomial_columns
-returns-in-err-h0 c = search rules
+returns-in_err-h0 c = search rules
 
-pub returns-in-err-h1 : goal.returns-in-err-h1
+pub returns-in_err-h1 : goal.returns-in_err-h1
 unfolding polynomial_columns
-returns-in-err-h1 c = search rules
+returns-in_err-h1 c = search rules
 
-pub returns-in-err-h2 : goal.returns-in-err-h2
+pub returns-in_err-h2 : goal.returns-in_err-h2
 unfolding polynomial_columns
-returns-in-err-h2 c = search rules
+returns-in_err-h2 c = search rules
 
-pub returns-in-err-h3 : goal.returns-in-err-h3
+pub returns-in_err-h3 : goal.returns-in_err-h3
 unfolding polynomial_columns
-returns-in-err-h3 c = search rules
+returns-in_err-h3 c = search rules
 
-pub returns-in-err-rest : goal.returns-in-err-rest
+pub returns-in_err-rest : goal.returns-in_err-rest
 unfolding polynomial_columns
-returns-in-err-rest c = search rules
+returns-in_err-rest c = search rules
 
 pub returns : goal.returns
 unfolding polynomial_columns

@@ -18,9 +18,9 @@ returns-then-text-gt4096 c =
 
 pub returns-in-Some : goal.returns-in-Some
 returns-in-Some c =
-    let made = c.fill-lines.ensures in
-    let all = c.fill-lines.new.codes in
-    let answer = c.fill-lines.result in
+    let made = c.fill_lines.ensures in
+    let all = c.fill_lines.new.codes in
+    let answer = c.fill_lines.result in
     let is = made.answer ∙
     named c.args.text.now c.in-Some.lines.now (omega arith) (strip_prefix_is Decides-eqb c.args.text.now names (Some c.in-Some.lines) c.in-Some.ensures.cases) in
     record {

@@ -7,7 +7,7 @@ pub loop-row-preserved : goal.loop-row-preserved
 loop-row-preserved c =
     let i = c.loop-row.invariant in
     let within = c.loop-row-test.true in
-    (left_more (λ x. x.turn) _ _ _ _ _ _ _ within c.picked-entry-turn.ensures i.0, left_more packed _ _ _ _ _ _ _ within (c.picked-entry-patterns.ensures ∙ ap (λ (x : ℕ). c.loop-row.rest % 2 * x) c.from-le-bytes.ensures) i.1)
+    (left_more (λ x. x.turn) _ _ _ _ _ _ _ within c.picked_entry-turn.ensures i.0, left_more packed _ _ _ _ _ _ _ within (c.picked_entry-patterns.ensures ∙ ap (λ (x : ℕ). c.loop-row.rest % 2 * x) c.from_le_bytes.ensures) i.1)
 
 pub returns : goal.returns
 returns c =

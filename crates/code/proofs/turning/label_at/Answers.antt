@@ -3,20 +3,20 @@ use Rattle.trellis.specs.Numbers.{phase_bits}
 use Rattle.code.proofs.TurningLoops.{make-more, make-fits, make_all}
 use Rattle.code.proofs.turning.label_at.Goals as goal
 
-pub overflow-add-made : goal.overflow-add-made
-overflow-add-made c =
-    let is = c.phase-bits-level-end.ensures.value in
+pub overflow_add-made : goal.overflow_add-made
+overflow_add-made c =
+    let is = c.phase_bits-level-end.ensures.value in
     let less : c.loop-level.level < phase_bits c.args.numbers = omega (arith, c.loop-level-test.true) in
-    record { fits = make-fits c.args.numbers c.requires c.loop-level.level c.turning-bit.result c.loop-level.made c.loop-level.rest c.args.number less c.turning-bit.ensures c.loop-level.invariant }
+    record { fits = make-fits c.args.numbers c.requires c.loop-level.level c.turning_bit.result c.loop-level.made c.loop-level.rest c.args.number less c.turning_bit.ensures c.loop-level.invariant }
 
 pub loop-level-preserved : goal.loop-level-preserved
 loop-level-preserved c =
-    let is = c.phase-bits-level-end.ensures.value in
+    let is = c.phase_bits-level-end.ensures.value in
     let less : c.loop-level.level < phase_bits c.args.numbers = omega (arith, c.loop-level-test.true) in
-    make-more c.args.numbers c.requires c.loop-level.level c.turning-bit.result c.loop-level.made c.loop-level.rest c.args.number less c.turning-bit.ensures c.loop-level.invariant
+    make-more c.args.numbers c.requires c.loop-level.level c.turning_bit.result c.loop-level.made c.loop-level.rest c.args.number less c.turning_bit.ensures c.loop-level.invariant
 
 pub returns : goal.returns
 returns c =
-    let is = c.phase-bits-level-end.ensures.value in
+    let is = c.phase_bits-level-end.ensures.value in
     let past : phase_bits c.args.numbers ≤ c.loop-level.level = omega (arith, c.loop-level-test.false) in
     make_all c.args.numbers c.requires c.loop-level.level c.loop-level.made c.loop-level.rest c.args.number past c.loop-level.invariant

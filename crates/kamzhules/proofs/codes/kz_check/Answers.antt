@@ -12,4 +12,4 @@ same (Err f) = refl
 
 pub returns : goal.returns
 returns c =
-    c.flaw-fault.ensures ∙ ap flaw_fault (c.of.ensures ∙ ap (λ (n : Numbers). flaw_in (judged n)) c.numbers-in.ensures) ∙ same (judged (numbers_in c.args.code))
+    c.flaw_fault.ensures ∙ ap flaw_fault (c.of.ensures ∙ ap (λ (n : Numbers). flaw_in (judged n)) c.numbers_in.ensures) ∙ same (judged (numbers_in c.args.code))

@@ -9,7 +9,7 @@ returns-in-Ok g c =
     let r = c.args.receiver.now in
     let k = c.in-Ok.code in
     let i = c.in-Ok.ensures in
-    let d = c.deliver-through.ensures in
+    let d = c.deliver_through.ensures in
     record {
       sure = not_barred r k i;
       kept = d.kept;

@@ -19,7 +19,7 @@ returns-in-Ok g c =
           let d : ℕ → ℕ → CDelivered = λ k m. record { count = k; sole = m } in (
             delivered count c.in-Ok.sole (take count (numbers_in words)),
             any_room_at g.K.Kept.says c.args.cells.now c.args.progress b (length c.args.words.now) (length buffer) _ c.requires s (given b s),
-            (refl, (λ i. d (all i) (c.mark-delivered.ensures i)), c.copy-words.ensures ∙ ap (λ k. take k (numbers_in words) ++ drop k buffer) all),
+            (refl, (λ i. d (all i) (c.mark-delivered.ensures i)), c.copy_words.ensures ∙ ap (λ k. take k (numbers_in words) ++ drop k buffer) all),
           );
     }
 

@@ -10,7 +10,7 @@ returns-in-Ok-take g c =
     let taken = c.in-Ok-take.ensures in
     let all = take_done g.K.Kept.says (g.F.Front.meaning c.args.front.now) c.args.reading.now c.args.cells.now c.take.new.cells r k
     c.standing-progress.result c.take.new.progress i c.standing-progress.ensures taken.answer taken.stands in
-    simp c.saturating-add-receiver.ensures
+    simp c.saturating_add-receiver.ensures
     (record {
       sure = not_barred r k i;
       kept = not_barred r k i;

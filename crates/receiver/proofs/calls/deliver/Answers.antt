@@ -14,22 +14,22 @@ returns-then-words-count g c =
       beyond = refl;
     }
 
-pub deliver-words-requires : goal.deliver-words-requires
-deliver-words-requires g c =
+pub deliver_words-requires : goal.deliver_words-requires
+deliver_words-requires g c =
     let r = c.args.progress in
-    let end = c.in-Some-block-end.ensures in
+    let end = c.in-Some-block_end.ensures in
     let long = length-map c.args.cells.now g.K.Kept.says in
     record { count = omega arith; cells = omega (arith, end.0); words = omega arith; end = end.1.inside }
 
-pub returns-in-Some-block-end : goal.returns-in-Some-block-end
-returns-in-Some-block-end g c =
+pub returns-in-Some-block_end : goal.returns-in-Some-block_end
+returns-in-Some-block_end g c =
     let r = c.args.progress in
     record {
       answer = λ b s.
           deliver-end g.K.Kept.says g.row.K-Score-Score.worth c.args.cells.now c.in-Some.code r.count b
-          (standing g.K.Kept.says c.args.cells.now r c.in-Some.code b c.in-Some.is s) c.in-Some-block-end.end c.in-Some-block-end.ensures
-          c.args.words.now c.deliver-words.new.words (omega arith) (omega arith) c.deliver-words.ensures.words;
-      beyond = c.deliver-words.ensures.rest;
+          (standing g.K.Kept.says c.args.cells.now r c.in-Some.code b c.in-Some.is s) c.in-Some-block_end.end c.in-Some-block_end.ensures
+          c.args.words.now c.deliver_words.new.words (omega arith) (omega arith) c.deliver_words.ensures.words;
+      beyond = c.deliver_words.ensures.rest;
     }
 
 pub returns-in-None : goal.returns-in-None

@@ -9,10 +9,10 @@ pub returns : goal.returns
 returns g c =
     let n = c.args.code.numbers in
     let cells = length c.args.cells.now in
-    let enough : ltb cells (2 ^ n.memory * (n.memory + 2)) ≡ false = sym c.too-few.ensures ∙ c.if-too-few.false in
-    let first : (E : ℕ) → E < 2 ^ n.memory → get_or (survivors g.K.Kept.says c.begin-row.new.cells) E no_survivor ≡ empty_path =
-    λ E l. c.begin-row.ensures E (omega (arith, c.states-of.ensures.value)) in
+    let enough : ltb cells (2 ^ n.memory * (n.memory + 2)) ≡ false = sym c.too_few.ensures ∙ c.if-too_few.false in
+    let first : (E : ℕ) → E < 2 ^ n.memory → get_or (survivors g.K.Kept.says c.begin_row.new.cells) E no_survivor ≡ empty_path =
+    λ E l. c.begin_row.ensures E (omega (arith, c.states_of.ensures.value)) in
     record {
       answer = λ b s. opened_answer cells n enough c.held.result c.held.ensures;
-      stands = λ b s. rw (opened_block cells n enough b) ((c.args.code, refl, refl), refl, opened_holds g.K.Kept.says c.begin-row.new.cells n first);
+      stands = λ b s. rw (opened_block cells n enough b) ((c.args.code, refl, refl), refl, opened_holds g.K.Kept.says c.begin_row.new.cells n first);
     }

@@ -15,21 +15,21 @@ extend-requires g c =
     let room = row_room cells n count t.room in
     record { reading = t.long; room = room.0; count = room.1 }
 
-pub returns-in-Some-take-refusal : goal.returns-in-Some-take-refusal
-returns-in-Some-take-refusal g c =
+pub returns-in-Some-take_refusal : goal.returns-in-Some-take_refusal
+returns-in-Some-take_refusal g c =
     let w = g.K.Kept.says in
     let f = g.F.Front.meaning c.args.front.now in
     let k = c.in-Some.code in
     let count = c.args.progress.now.count in
     let cells = length c.args.cells.now in
-    let why = c.in-Some-take-refusal.ensures in
+    let why = c.in-Some-take_refusal.ensures in
     record {
       answer = λ b s.
           let o = standing w c.args.cells.now c.args.progress.now k b c.in-Some.is s in
-          take-refused cells f c.args.reading.now k.numbers o.scores count b o.is o.counts c.in-Some-take-refusal.refusal why;
+          take-refused cells f c.args.reading.now k.numbers o.scores count b o.is o.counts c.in-Some-take_refusal.refusal why;
       stands = λ b s.
           let o = standing w c.args.cells.now c.args.progress.now k b c.in-Some.is s in
-          rw (take_left cells f c.args.reading.now k.numbers o.scores count b o.is o.counts c.in-Some-take-refusal.refusal why) s;
+          rw (take_left cells f c.args.reading.now k.numbers o.scores count b o.is o.counts c.in-Some-take_refusal.refusal why) s;
     }
 
 pub returns-in-None : goal.returns-in-None

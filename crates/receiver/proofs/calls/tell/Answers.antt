@@ -3,12 +3,12 @@ use Rattle.receiver.proofs.Ended.{end_there, tell-end}
 use Rattle.receiver.proofs.Standing.{standing}
 use Rattle.receiver.proofs.calls.tell.Goals as goal
 
-pub returns-in-Some-block-end : goal.returns-in-Some-block-end
-returns-in-Some-block-end g c b s =
+pub returns-in-Some-block_end : goal.returns-in-Some-block_end
+returns-in-Some-block_end g c b s =
     let r = c.args.progress in
     let some : 0 < r.count = omega arith in
     tell-end g.K.Kept.says g.row.K-Score-Score.worth c.args.cells.now c.in-Some.code r.count b
-    (standing g.K.Kept.says c.args.cells.now r c.in-Some.code b c.in-Some.is s) c.in-Some-block-end.end c.in-Some-block-end.ensures some
+    (standing g.K.Kept.says c.args.cells.now r c.in-Some.code b c.in-Some.is s) c.in-Some-block_end.end c.in-Some-block_end.ensures some
 
 pub returns-in-None : goal.returns-in-None
 returns-in-None g c b s =

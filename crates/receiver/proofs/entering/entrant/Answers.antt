@@ -5,8 +5,8 @@ use Rattle.receiver.proofs.Limited.{states_most}
 use Rattle.receiver.proofs.Syndromes.{back_odd, odd_enters}
 use Rattle.receiver.proofs.entering.entrant.Goals as goal
 
-pub overflow-mul-before : goal.overflow-mul-before
-overflow-mul-before c = let most = states_most c.args.code in let is = c.requires.states in let h = c.requires.state in record { fits = omega arith }
+pub overflow_mul-before : goal.overflow_mul-before
+overflow_mul-before c = let most = states_most c.args.code in let is = c.requires.states in let h = c.requires.state in record { fits = omega arith }
 
 pub returns-else-before-states : goal.returns-else-before-states
 returns-else-before-states c =

@@ -2,8 +2,8 @@ use Rattle.std.proofs.Common.{arith}
 use Rattle.receiver.proofs.Sums.{noughts_small}
 use Rattle.receiver.proofs.extend.extend.Goals as goal
 
-pub extend-by-requires : goal.extend-by-requires
-extend-by-requires g c = record {
+pub extend_by-requires : goal.extend_by-requires
+extend_by-requires g c = record {
   table = (omega arith, noughts_small g.row.K-Score-Score.worth 64 c.nought-table.result c.nought-table.ensures);
   best = omega arith;
   reading = c.requires.reading;

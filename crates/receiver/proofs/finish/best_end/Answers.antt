@@ -6,11 +6,11 @@ use Rattle.receiver.proofs.finish.best_end.Goals as goal
 
 pub loop-state-init : goal.loop-state-init
 loop-state-init g c =
-    best_first (survivors g.K.Kept.says c.args.row.now) _ _ c.cell-at.ensures c.end-at-best.ensures
+    best_first (survivors g.K.Kept.says c.args.row.now) _ _ c.cell_at.ensures c.end_at-best.ensures
 
 pub loop-state-preserved : goal.loop-state-preserved
 loop-state-preserved g c =
-    best_more (survivors g.K.Kept.says c.args.row.now) c.loop-state.state _ _ _ _ c.cell-at-in-loop-state.ensures c.end-at.ensures c.better-end-best.ensures c.loop-state.invariant
+    best_more (survivors g.K.Kept.says c.args.row.now) c.loop-state.state _ _ _ _ c.cell_at-in-loop-state.ensures c.end_at.ensures c.better_end-best.ensures c.loop-state.invariant
 
 pub returns : goal.returns
 returns g c =

@@ -7,8 +7,8 @@ use Rattle.receiver.proofs.fitness.all_fit.Goals as goal
 pub loop-place-init : goal.loop-place-init
 loop-place-init g c = simp sub-zero (refl, c.requires.long)
 
-pub slice-bounds-fit-end : goal.slice-bounds-fit-end
-slice-bounds-fit-end g c =
+pub slice_bounds-fit-end : goal.slice_bounds-fit-end
+slice_bounds-fit-end g c =
     let room = words_left c.args.places c.loop-place.place c.args.size c.loop-place-test.true in
     let h : c.args.size ≤ length c.loop-place.rest.now = omega (arith, c.loop-place.invariant.1) in search rules
 
@@ -20,19 +20,19 @@ returns-then-not-fit g c =
     ∙ sym (fit_left f c.args.phases c.args.size c.args.places c.loop-place.place c.loop-place.rest.now c.requires.width c.loop-place-test.true)
     ∙ c.loop-place.invariant.0
 
-pub offset-bounds-rest-size : goal.offset-bounds-rest-size
-offset-bounds-rest-size g c =
+pub offset_bounds-rest-size : goal.offset_bounds-rest-size
+offset_bounds-rest-size g c =
     let room = words_left c.args.places c.loop-place.place c.args.size c.loop-place-test.true in
     let fewer : (c.args.places - c.loop-place.place) * c.args.size ≤ c.args.places * c.args.size = mul-le-mul_right c.args.size (omega arith) in
     let h : c.args.size ≤ length c.args.reading.now = omega (arith, c.requires.long) in search rules
 
-pub slice-bounds-rest-count : goal.slice-bounds-rest-count
-slice-bounds-rest-count g c =
+pub slice_bounds-rest-count : goal.slice_bounds-rest-count
+slice_bounds-rest-count g c =
     let room = words_left c.args.places c.loop-place.place c.args.size c.loop-place-test.true in
     let h : c.args.size ≤ length c.loop-place.rest.now = omega (arith, c.loop-place.invariant.1) in search rules
 
-pub slice-bounds-rest-start : goal.slice-bounds-rest-start
-slice-bounds-rest-start g c =
+pub slice_bounds-rest-start : goal.slice_bounds-rest-start
+slice_bounds-rest-start g c =
     let room = words_left c.args.places c.loop-place.place c.args.size c.loop-place-test.true in
     let h : c.args.size ≤ length c.loop-place.rest.now = omega (arith, c.loop-place.invariant.1) in search rules
 

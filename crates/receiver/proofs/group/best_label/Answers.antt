@@ -4,15 +4,15 @@ use Rattle.receiver.proofs.Limited.{labels_most, groups_most, groups_some, group
 use Rattle.receiver.proofs.Residues.{first_residue, next_residue, first_best, next_best, all_best}
 use Rattle.receiver.proofs.group.best_label.Goals as goal
 
-pub overflow-add-label : goal.overflow-add-label
-overflow-add-label g c = let few = groups_most c.args.code in let is = c.requires.stride in let h = c.requires.group in record { fits = omega arith }
+pub overflow_add-label : goal.overflow_add-label
+overflow_add-label g c = let few = groups_most c.args.code in let is = c.requires.stride in let h = c.requires.group in record { fits = omega arith }
 
-pub overflow-cast-label-in-loop-label : goal.overflow-cast-label-in-loop-label
-overflow-cast-label-in-loop-label g c =
+pub overflow_cast-label-in-loop-label : goal.overflow_cast-label-in-loop-label
+overflow_cast-label-in-loop-label g c =
     let few = labels_most c.args.code in let is = c.requires.labels in let h = c.loop-label-test.true in record { fits = omega arith }
 
-pub overflow-add-label-in-loop-label : goal.overflow-add-label-in-loop-label
-overflow-add-label-in-loop-label g c =
+pub overflow_add-label-in-loop-label : goal.overflow_add-label-in-loop-label
+overflow_add-label-in-loop-label g c =
     let few = labels_most c.args.code in
     let is = c.requires.labels in
     let h = c.loop-label-test.true in

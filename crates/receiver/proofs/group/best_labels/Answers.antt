@@ -6,25 +6,25 @@ use Rattle.receiver.specs.Scored.{label_sum}
 use Rattle.receiver.proofs.Residues.{groups_more}
 use Rattle.receiver.proofs.group.best_labels.Goals as goal
 
-pub best-label-cell-requires : goal.best-label-cell-requires
-best-label-cell-requires g c =
-    record { room = c.requires.table; labels = c.labels-of-labels.ensures.value; stride = c.groups-of-groups.ensures.value; group = c.loop-group-test.true }
+pub best_label-cell-requires : goal.best_label-cell-requires
+best_label-cell-requires g c =
+    record { room = c.requires.table; labels = c.labels_of-labels.ensures.value; stride = c.groups_of-groups.ensures.value; group = c.loop-group-test.true }
 
 pub loop-group-preserved : goal.loop-group-preserved
 loop-group-preserved g c =
     let n = c.args.code.numbers in
     let f = label_sum n (map g.row.S-Score.worth c.args.table.now) in
     let group = c.loop-group.group in
-    let few = c.groups-of-groups.ensures.most in
+    let few = c.groups_of-groups.ensures.most in
     let taken = c.loop-group-test.true in
     let room = c.requires.best in
     let kept = c.loop-group.auto.best in
     let within : group < length c.loop-group.best = omega arith in
     λ small. subst (λ (cs : List (Cell g.row.S.Denot)). GroupsBest n f (group + 1) (survivors (survivor g.row.S-Score.worth) cs)) (sym c.put.ensures)
-    (groups_more g.row.S-Score.worth n f group c.loop-group.best c.best-label-cell.result within (c.best-label-cell.ensures small) (c.loop-group.invariant small))
+    (groups_more g.row.S-Score.worth n f group c.loop-group.best c.best_label-cell.result within (c.best_label-cell.ensures small) (c.loop-group.invariant small))
 
 pub returns : goal.returns
 returns g c =
-    let is = c.groups-of-groups.ensures.value in
+    let is = c.groups_of-groups.ensures.value in
     let past = c.loop-group-test.false in
     λ small group h. c.loop-group.invariant small group (omega arith)

@@ -3,11 +3,11 @@ use Rattle.std.proofs.lemmas.Nat.{one_shl}
 use Rattle.receiver.proofs.Limited.{checked_most, groups_most}
 use Rattle.receiver.proofs.sizes.groups_of.Goals as goal
 
-pub overflow-add-result : goal.overflow-add-result
-overflow-add-result c = let few = checked_most c.args.code in record { fits = omega arith }
+pub overflow_add-result : goal.overflow_add-result
+overflow_add-result c = let few = checked_most c.args.code in record { fits = omega arith }
 
-pub overflow-shl-result : goal.overflow-shl-result
-overflow-shl-result c = let few = checked_most c.args.code in omega arith
+pub overflow_shl-result : goal.overflow_shl-result
+overflow_shl-result c = let few = checked_most c.args.code in omega arith
 
 pub returns : goal.returns
 returns c =

@@ -4,8 +4,8 @@ use Rattle.trellis.proofs.Polynomials.{memory_bound}
 use Rattle.receiver.proofs.Limited.{states_least, states_most}
 use Rattle.receiver.proofs.sizes.states_of.Goals as goal
 
-pub overflow-shl-result : goal.overflow-shl-result
-overflow-shl-result c = let few = memory_bound c.args.code.numbers c.args.code.limits in omega arith
+pub overflow_shl-result : goal.overflow_shl-result
+overflow_shl-result c = let few = memory_bound c.args.code.numbers c.args.code.limits in omega arith
 
 pub returns : goal.returns
 returns c =

@@ -3,4 +3,4 @@ use Rattle.survivors.specs.Best.{Survivor}
 use Rattle.receiver.proofs.trace.label_at.Goals as goal
 
 pub returns : goal.returns
-returns g c = ap (λ (s : Survivor). s.label) c.cell-at.ensures
+returns g c = ap (λ (s : Survivor). s.label) c.cell_at.ensures

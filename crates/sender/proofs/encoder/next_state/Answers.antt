@@ -4,8 +4,8 @@ use Rattle.trellis.proofs.Polynomials.{syndrome_nine}
 use Rattle.sender.proofs.Fits.{whole_is}
 use Rattle.sender.proofs.encoder.next_state.Goals as goal
 
-pub overflow-cast-result-2 : goal.overflow-cast-result-2
-overflow-cast-result-2 c =
+pub overflow_cast-result-2 : goal.overflow_cast-result-2
+overflow_cast-result-2 c =
     let few = syndrome_nine c.args.code.numbers c.args.code.limits c.args.code.polynomials c.args.label.0 in
     let is = whole_is c.args.code.numbers c.checked.result c.args.sum c.args.label.0 c.checked.ensures c.requires in
     let below : bit_xor c.args.state.0 (bit_xor c.checked.result c.args.sum) < 2 ^ 9 = xor_lt 9 c.args.state.0 (bit_xor c.checked.result c.args.sum) (omega arith) (omega arith) in

@@ -8,12 +8,12 @@ use Rattle.code.proofs.record.Code.new.Goals as goal
 abbrev refused : Flaw → Result Numbers Flaw
 refused f = Err f
 
-pub invariant-of-result : goal.invariant-of-result
-invariant-of-result c = let none = judged-none c.args.numbers (sym c.first-fault-fault.ensures ∙ c.if-fault-eq0.true) in (none.0, (none.1, (none.2, tt)))
+pub invariant_of-result : goal.invariant_of-result
+invariant_of-result c = let none = judged-none c.args.numbers (sym c.first_fault-fault.ensures ∙ c.if-fault-eq0.true) in (none.0, (none.1, (none.2, tt)))
 
 pub returns-then-fault-eq0 : goal.returns-then-fault-eq0
-returns-then-fault-eq0 c = sym (judged-taken c.args.numbers (sym c.first-fault-fault.ensures ∙ c.if-fault-eq0.true))
+returns-then-fault-eq0 c = sym (judged-taken c.args.numbers (sym c.first_fault-fault.ensures ∙ c.if-fault-eq0.true))
 
 pub returns-else-fault-eq0 : goal.returns-else-fault-eq0
 returns-else-fault-eq0 c =
-    ap refused (c.flaw-at.ensures ∙ ap flaw_at c.first-fault-fault.ensures) ∙ sym (judged-refused c.args.numbers (λ z. c.if-fault-eq0.false (c.first-fault-fault.ensures ∙ z)))
+    ap refused (c.flaw_at.ensures ∙ ap flaw_at c.first_fault-fault.ensures) ∙ sym (judged-refused c.args.numbers (λ z. c.if-fault-eq0.false (c.first_fault-fault.ensures ∙ z)))

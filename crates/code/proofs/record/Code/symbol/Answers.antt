@@ -21,8 +21,8 @@ returns-then-self-eq1 c =
       turns = turns n w;
     }
 
-pub overflow-add-all : goal.overflow-add-all
-overflow-add-all c =
+pub overflow_add-all : goal.overflow_add-all
+overflow_add-all c =
     let n = c.args.self.numbers in
     let z = c.args.label.0 in
     let fits : c.joined-turn.result.1 < 2 ^ 32 = omega arith in
@@ -31,8 +31,8 @@ overflow-add-all c =
     (c.joined-turn.ensures.patterns ∙ ap (λ (rs : List Row). picked packed rs z) c.rows.ensures.value) fits in
     record { fits = omega arith }
 
-pub overflow-mul-all : goal.overflow-mul-all
-overflow-mul-all c =
+pub overflow_mul-all : goal.overflow_mul-all
+overflow_mul-all c =
     let n = c.args.self.numbers in
     let z = c.args.label.0 in
     let fits : c.joined-turn.result.1 < 2 ^ 32 = omega arith in
@@ -52,5 +52,5 @@ returns c =
     let is = phases-are n w z t p
     (c.joined-turn.ensures.turn ∙ ap (λ (rs : List Row). picked (λ r. r.turn) rs z) c.rows.ensures.value)
     (c.joined-turn.ensures.patterns ∙ ap (λ (rs : List Row). picked packed rs z) c.rows.ensures.value) fits
-    (bit_and (t * 16843009 + p) c.used-bits.result) (ap (bit_and (t * 16843009 + p)) c.used-bits.ensures) in
-    record { value = c.to-le-bytes.ensures ∙ is; distinct = distinct n w; turns = turns n w }
+    (bit_and (t * 16843009 + p) c.used_bits.result) (ap (bit_and (t * 16843009 + p)) c.used_bits.ensures) in
+    record { value = c.to_le_bytes.ensures ∙ is; distinct = distinct n w; turns = turns n w }

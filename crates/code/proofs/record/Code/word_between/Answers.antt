@@ -14,4 +14,4 @@ difference-rise-requires c =
 pub returns : goal.returns
 returns c =
     word-is c.args.self _ c.step.ensures.value c.args.before.0 c.args.label.0 _ _ c.differential.ensures c.differential-2.ensures
-    _ _ c.difference-rise.ensures c.with-differential.ensures
+    _ _ c.difference-rise.ensures c.with_differential.ensures
