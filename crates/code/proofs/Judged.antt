@@ -1,8 +1,8 @@
 -- The judgment as one number.
-use Rattle.std.proofs.Common.{◌≡◌, ℕ, ◌≤◌, Bool, true, false, cond, eqb, ltb, leb, ◌⊎◌, Some, None, Ok, Err, Option, Result, sym, refl, ap, ◌∙◌, inl, inr, ⊎_elim, arith}
-use Rattle.std.proofs.lemmas.Bool.{cases_Bool, cases_eq, cond-true, cond-false, eq-eqb, ne_eqb, le-leb, lt-leb}
+use Rattle.std.proofs.Common.{◌≡◌, ℕ, ◌≤◌, Bool, true, false, cond, eqb, ltb, leb, ◌⊎◌, Ok, Err, Result, sym, refl, ap, ◌∙◌, inl, inr, ⊎_elim, arith}
+use Rattle.std.proofs.lemmas.Bool.{cases_eq, cond-true, cond-false, eq-eqb, ne_eqb, le-leb, lt-leb}
 use Rattle.code.specs.declared.flaw.Flaw.{Flaw}
-use Rattle.code.specs.declared.flaw.Flaw.TheVariants.{Limit, Polynomial, Parity}
+use Rattle.code.specs.declared.flaw.Flaw.TheVariants.{Limit, Polynomial}
 use Rattle.code.specs.Flaw.{judged, first_fault, flaw_at}
 use Rattle.trellis.specs.declared.Numbers.{Numbers}
 use Rattle.trellis.specs.Numbers.{word_bits}

@@ -9,7 +9,7 @@ use Rattle.trellis.specs.Rows.{label_rows}
 use Rattle.trellis.specs.Step.{step, differential_bits}
 use Rattle.trellis.specs.Words.{rise, word_between}
 use Rattle.trellis.proofs.BurstLaws.{Sends, sends}
-use Rattle.trellis.proofs.Gather.{count, gather-below, put-below}
+use Rattle.trellis.proofs.Gather.{gather-below, put-below}
 
 module _ (k : Code) where
   accepted : Sends k.numbers

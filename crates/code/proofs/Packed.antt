@@ -1,8 +1,8 @@
 -- The phases of all places at once.
-use Rattle.std.proofs.Common.{◌≡◌, ℕ, zero, suc, ◌+◌, ◌-◌, ◌*◌, ◌/◌, ◌%◌, ◌^◌, ◌<◌, ◌≤◌, Bool, true, false, cond, ◌&&◌, eqb, ltb, List, [], ◌∷◌, get_or, sym, refl, ap, ◌∙◌, subst, ⊎_elim, one-mul, zero-mul, arith, shr-shr}
+use Rattle.std.proofs.Common.{◌≡◌, ℕ, zero, suc, ◌+◌, ◌-◌, ◌*◌, ◌/◌, ◌%◌, ◌^◌, ◌<◌, ◌≤◌, Bool, true, false, cond, ◌&&◌, eqb, ltb, List, [], ◌∷◌, sym, refl, ap, ◌∙◌, subst, ⊎_elim, one-mul, zero-mul, arith, shr-shr}
 use native.Mathlib.Nat.{zero-div}
 use lib.Bits.{bit_and, bit_xor, and_mask, and_zero_r, and_shr, and_mod, xor_shr, xor_mod, xor_lt}
-use Rattle.std.proofs.lemmas.Bool.{and_parts, eqb-true, ltb-true, cases_eq, cases_Bool, cond-true, cond-false}
+use Rattle.std.proofs.lemmas.Bool.{and_parts, eqb-true, ltb-true, cases_eq}
 use Rattle.code.specs.Packed.{packed, used_bits}
 use Rattle.trellis.specs.declared.Numbers.{Numbers}
 use Rattle.trellis.specs.declared.Row.{Row}
@@ -11,7 +11,7 @@ use Rattle.trellis.specs.Mapper.{picked, entry_at, patterns, phase_at, symbol_of
 use Rattle.trellis.specs.Rows.{label_rows}
 use Rattle.trellis.proofs.Gather.{bit_below, mul-below}
 use Rattle.trellis.proofs.MapperLaws.{set_rows, turn-picked, turning-below}
-use Rattle.trellis.proofs.Sets.{Within, within, every_set, at_set, below, below_at, one_of}
+use Rattle.trellis.proofs.Sets.{Within, at_set, below, below_at, one_of}
 
 -- the eight bits from bit k on
 abbrev pub lane : ℕ → ℕ → ℕ

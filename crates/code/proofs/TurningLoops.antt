@@ -1,5 +1,5 @@
 -- The loops over the turning bits.
-use Rattle.std.proofs.Common.{◌≡◌, ℕ, zero, suc, ◌+◌, ◌-◌, ◌*◌, ◌/◌, ◌%◌, ◌^◌, ◌<◌, ◌≤◌, Bool, leb, length, sym, refl, ap, ◌∙◌, subst, add_assoc, add-one, arith}
+use Rattle.std.proofs.Common.{◌≡◌, ℕ, zero, suc, ◌+◌, ◌-◌, ◌*◌, ◌/◌, ◌%◌, ◌^◌, ◌<◌, ◌≤◌, Bool, leb, length, sym, refl, ap, ◌∙◌, add_assoc, add-one, arith}
 use native.Mathlib.Nat.{pow-le-pow_right}
 use Rattle.std.proofs.lemmas.Nat.{shl_whole}
 use Rattle.std.proofs.lemmas.Bool.{leb-true}
@@ -13,7 +13,7 @@ use Rattle.trellis.specs.Step.{turning_bit}
 use Rattle.trellis.proofs.Gather.{bit_below, put-below}
 use Rattle.trellis.proofs.MapperLaws.{set_rows}
 use Rattle.trellis.proofs.Positions.{read_at, write_at, turning_bits, turning_read, turning_write, bit_small}
-use Rattle.trellis.proofs.Sets.{Within, within, every_set, at_set}
+use Rattle.trellis.proofs.Sets.{within, at_set}
 
 abbrev rows_test : ℕ → ℕ → ℕ → Bool
 rows_test l m q = leb (length (set_rows l m q)) 16

@@ -1,4 +1,4 @@
-use Rattle.std.proofs.Common.{◌≡◌, sym, ◌∙◌}
+use Rattle.std.proofs.Common.{sym, ◌∙◌}
 use Rattle.std.proofs.lemmas.Bool.{cond-true, cond-false}
 use Rattle.code.proofs.Judged.{first_limit, first-polynomial, first-parity}
 use Rattle.code.proofs.limits.first_fault.Goals as goal

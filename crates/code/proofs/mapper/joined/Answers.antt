@@ -1,4 +1,4 @@
-use Rattle.std.proofs.Common.{◌≡◌, ℕ, ◌*◌, ◌%◌, ap, ◌∙◌}
+use Rattle.std.proofs.Common.{ℕ, ◌*◌, ◌%◌, ap, ◌∙◌}
 use Rattle.code.specs.Packed.{packed}
 use Rattle.code.proofs.Joined.{left_more, left_all}
 use Rattle.code.proofs.mapper.joined.Goals as goal

@@ -1,5 +1,4 @@
-use Rattle.std.proofs.Common.{◌≡◌, arith}
-use Rattle.code.proofs.Packed.{and_phases, phases_few}
+use Rattle.code.proofs.Packed.{and_phases}
 use Rattle.code.proofs.mapper.modulo.Goals as goal
 
 pub returns : goal.returns

@@ -1,4 +1,4 @@
-use Rattle.std.proofs.Common.{◌≡◌, ℕ, sym, ap, ◌∙◌, arith}
+use Rattle.std.proofs.Common.{ℕ, sym, ap, ◌∙◌, arith}
 use Rattle.trellis.specs.Sums.{turns_by_sum}
 use Rattle.trellis.proofs.Sets.{within, places_bound}
 use Rattle.trellis.proofs.Turns.{checked_few, turns_sum}

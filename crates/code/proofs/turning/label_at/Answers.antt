@@ -1,4 +1,4 @@
-use Rattle.std.proofs.Common.{◌≡◌, ◌<◌, ◌≤◌, sym, ◌∙◌, arith}
+use Rattle.std.proofs.Common.{◌<◌, ◌≤◌, arith}
 use Rattle.trellis.specs.Numbers.{phase_bits}
 use Rattle.code.proofs.TurningLoops.{make-more, make-fits, make_all}
 use Rattle.code.proofs.turning.label_at.Goals as goal

@@ -1,4 +1,4 @@
-use Rattle.std.proofs.Common.{◌≡◌, ◌-◌, ◌<◌, ◌≤◌, sym, ◌∙◌, arith}
+use Rattle.std.proofs.Common.{◌≡◌, ◌-◌, arith}
 use Rattle.trellis.specs.Numbers.{phase_bits}
 use Rattle.code.proofs.TurningLoops.{read_small, read_none, read_down, read_all}
 use Rattle.code.proofs.turning.number_at.Goals as goal

@@ -1,4 +1,4 @@
-use Rattle.std.proofs.Common.{◌≡◌, ℕ, Some, None, Option, sym, ap, ◌∙◌}
+use Rattle.std.proofs.Common.{Some, Option, sym, ap, ◌∙◌}
 use Rattle.code.specs.declared.flaw.Flaw.{Flaw}
 use Rattle.code.specs.Flaw.{flaw_in, flaw_at}
 use Rattle.code.proofs.Judged.{judged-taken, judged-refused}

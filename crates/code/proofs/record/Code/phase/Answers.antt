@@ -1,4 +1,4 @@
-use Rattle.std.proofs.Common.{◌≡◌, ℕ, true, cond, ltb, List, get_or, Some, None, Option, ap, ◌∙◌}
+use Rattle.std.proofs.Common.{ℕ, cond, ltb, List, get_or, Some, None, Option, ap, ◌∙◌}
 use Rattle.trellis.proofs.Sets.{within, places_bound}
 use Rattle.code.proofs.Joined.{used_phase}
 use Rattle.code.proofs.record.Code.phase.Goals as goal

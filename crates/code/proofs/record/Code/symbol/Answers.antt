@@ -1,9 +1,8 @@
-use Rattle.std.proofs.Common.{◌≡◌, ℕ, ◌+◌, ◌*◌, ◌^◌, ◌<◌, List, [], ◌∷◌, sym, ap, ◌∙◌, arith}
+use Rattle.std.proofs.Common.{ℕ, ◌+◌, ◌*◌, ◌^◌, ◌<◌, List, [], ◌∷◌, sym, ap, ◌∙◌, arith}
 use lib.Bits.{bit_and}
-use Rattle.code.specs.Packed.{packed, used_bits}
+use Rattle.code.specs.Packed.{packed}
 use Rattle.trellis.specs.declared.Row.{Row}
 use Rattle.trellis.specs.Mapper.{picked}
-use Rattle.trellis.specs.Rows.{label_rows}
 use Rattle.trellis.proofs.Distinct.{distinct}
 use Rattle.trellis.proofs.MapperLaws.{turns}
 use Rattle.trellis.proofs.Positions.{one_symbol}

@@ -1,4 +1,4 @@
-use Rattle.std.proofs.Common.{◌≡◌, sym, ◌∙◌}
+use Rattle.std.proofs.Common.{sym, ◌∙◌}
 use Rattle.trellis.proofs.Positions.{one-put}
 use Rattle.trellis.proofs.Sets.{within}
 use Rattle.code.proofs.record.Code.turning_label.Goals as goal

@@ -1,4 +1,4 @@
-use Rattle.std.proofs.Common.{◌≡◌, sym, ◌∙◌}
+use Rattle.std.proofs.Common.{sym, ◌∙◌}
 use Rattle.trellis.proofs.Positions.{one-turning}
 use Rattle.trellis.proofs.Sets.{within}
 use Rattle.code.proofs.record.Code.turning_number.Goals as goal
