@@ -1,5 +1,5 @@
 -- Types that take little memory.
-use Rattle.std.specs.Prelude.{ℕ, ◌^◌, ◌<◌, ◌≤◌}
+use Rattle.std.specs.Prelude.{◌^◌, ◌<◌, ◌≤◌}
 use denote.Param.{layout}
 use Rattle.std.specs.Borrow.{RattleType}
 use prog.Memory.{size, align}

@@ -1,5 +1,5 @@
 -- What the encoder's numbers are, and that they fit.
-use Rattle.std.proofs.Common.{◌≡◌, ℕ, suc, ◌+◌, ◌-◌, ◌*◌, ◌/◌, ◌%◌, ◌^◌, ◌<◌, ◌≤◌, Bool, true, false, List, [], ◌∷◌, length, drop, sym, refl, ap, ◌∙◌, subst, ⊎_elim, mod-lt, zero-add, zero-mul, arith, pow_pos}
+use Rattle.std.proofs.Common.{◌≡◌, ℕ, suc, ◌+◌, ◌-◌, ◌*◌, ◌/◌, ◌%◌, ◌^◌, ◌<◌, ◌≤◌, Bool, true, List, [], ◌∷◌, length, drop, sym, refl, ap, ◌∙◌, subst, ⊎_elim, mod-lt, zero-add, zero-mul, arith, pow_pos}
 use native.Mathlib.Nat.{pow-le-pow_right, zero-mod, mul-mod_left}
 use lib.Bits.{bit_and, bit_xor, and_mask, xor_lt}
 use Rattle.std.proofs.lemmas.Nat.{shl-shr, shl_whole, shr_le}
@@ -9,7 +9,7 @@ use Rattle.trellis.specs.declared.Numbers.{Numbers}
 use Rattle.trellis.specs.declared.Row.{Row}
 use Rattle.trellis.specs.Label.{gather, put, turns_by}
 use Rattle.trellis.specs.Mapper.{turning_number}
-use Rattle.trellis.specs.Numbers.{label_bits, word_bits, polynomials}
+use Rattle.trellis.specs.Numbers.{word_bits, polynomials}
 use Rattle.trellis.specs.Parity.{syndrome}
 use Rattle.trellis.specs.Precoder.{differential, placed, with_parity}
 use Rattle.trellis.specs.Rows.{label_rows}

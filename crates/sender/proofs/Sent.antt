@@ -1,5 +1,5 @@
 -- A word that is not refused: the answer, and where the burst stands after it.
-use Rattle.std.proofs.Common.{◌≡◌, ℕ, ◌+◌, ◌^◌, ◌<◌, ◌≤◌, leb, List, None, Ok, Option, Result, sym, refl, ap, ◌∙◌, arith}
+use Rattle.std.proofs.Common.{◌≡◌, ℕ, ◌+◌, ◌^◌, ◌<◌, leb, List, None, Ok, Option, Result, sym, ap, ◌∙◌}
 use Rattle.std.proofs.lemmas.Bool.{cond-false, lt-leb}
 use Rattle.sender.specs.declared.refusal.SendRefusal.{SendRefusal}
 use Rattle.sender.specs.Sender.{Standing, refusal_of, next_label, answer_by, answer, after_by, after}

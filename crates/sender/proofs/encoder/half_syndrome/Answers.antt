@@ -1,5 +1,4 @@
-use Rattle.std.proofs.Common.{◌≡◌, sym, ap, ◌∙◌}
-use lib.Bits.{bit_xor, xor_zero_r}
+use lib.Bits.{xor_zero_r}
 use Rattle.sender.proofs.encoder.half_syndrome.Goals as goal
 
 pub returns : goal.returns

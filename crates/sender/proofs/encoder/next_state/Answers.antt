@@ -1,4 +1,4 @@
-use Rattle.std.proofs.Common.{◌≡◌, ℕ, ◌/◌, ◌^◌, ◌<◌, ap, arith}
+use Rattle.std.proofs.Common.{ℕ, ◌/◌, ◌^◌, ◌<◌, ap, arith}
 use lib.Bits.{bit_xor, xor_lt}
 use Rattle.trellis.proofs.Polynomials.{syndrome_nine}
 use Rattle.sender.proofs.Fits.{whole_is}
