@@ -1,5 +1,5 @@
 -- Clean readings of labels: a path of worth 0 has those labels, so that only its start state is left to try.
-use Rattle.std.proofs.Common.{◌≡◌, ℕ, zero, suc, ◌<◌, ◌≤◌, true, List, [], ◌∷◌, reverse, sym, refl, ◌∙◌, subst, inl, inr, arith, lit<, lit≤}
+use Rattle.std.proofs.Common.{◌≡◌, ℕ, zero, suc, ◌<◌, ◌≤◌, true, List, [], ◌∷◌, reverse, sym, refl, ◌∙◌, subst, inr, arith, lit<, lit≤}
 use native.Mathlib.Nat.{zero-mod}
 use lib.Count.{ones, ones_in}
 use Rattle.examples.specs.Examples.{one_place_code, readings, scores}

@@ -1,5 +1,5 @@
 -- Worked examples, as one statement on the definitions that the contracts cite.
-use Rattle.std.specs.Prelude.{◌≡◌, ℕ, ◌≤◌, true, List, [], ◌∷◌, map, take, Some, None, Ok, Err, Option, Result}
+use Rattle.std.specs.Prelude.{◌≡◌, ℕ, ◌≤◌, true, List, [], ◌∷◌, map, take, Some, None, Ok, Err}
 use Rattle.code.specs.declared.flaw.Flaw.TheVariants.{Parity}
 use Rattle.code.specs.Flaw.{judged, flaw_number}
 use Rattle.fronts.specs.StrikeLaws.{strike_meaning}

@@ -10,6 +10,6 @@ pub returns-in-6-to-7 : goal.returns-in-6-to-7
 unfolding content
 returns-in-6-to-7 c = search rules
 
-pub returns-in-default : goal.returns-in-default
+pub returns-in_default : goal.returns-in_default
 unfolding content
-returns-in-default c = search rules
+returns-in_default c = search rules

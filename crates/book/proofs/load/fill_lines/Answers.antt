@@ -9,7 +9,7 @@ loop-rest-init c = (omega arith, after_none _)
 
 pub returns-in_err-numbers : goal.returns-in_err-numbers
 returns-in_err-numbers c =
-    let p = err_from_is_err_and c.from-residual.result c.from-residual.ensures.1 in
+    let p = err_from_is_err_and c.from_residual.result c.from_residual.ensures.1 in
     let some = eqb-false _ _ (sym c.loop-rest-test.ensures) in
     rw (p.1, p.2) (record {
       answer =
@@ -20,7 +20,7 @@ returns-in_err-numbers c =
 
 pub returns-in_err-code : goal.returns-in_err-code
 returns-in_err-code c =
-    let p = err_from_is_err_and c.from-residual-in-err-code.result c.from-residual-in-err-code.ensures.1 in
+    let p = err_from_is_err_and c.from_residual-in_err-code-in_err-code.result c.from_residual-in_err-code-in_err-code.ensures.1 in
     let some = eqb-false _ _ (sym c.loop-rest-test.ensures) in
     rw (p.1, p.2) (record {
       answer =

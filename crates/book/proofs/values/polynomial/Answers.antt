@@ -6,6 +6,6 @@ pub returns-in-Octal : goal.returns-in-Octal
 unfolding polynomial
 returns-in-Octal c = search rules
 
-pub returns-in-default : goal.returns-in-default
+pub returns-in_default : goal.returns-in_default
 unfolding polynomial
-returns-in-default c = search rules
+returns-in_default c = search rules

@@ -6,6 +6,6 @@ pub returns-in-Decimal : goal.returns-in-Decimal
 unfolding small
 returns-in-Decimal c = search rules
 
-pub returns-in-default : goal.returns-in-default
+pub returns-in_default : goal.returns-in_default
 unfolding small
-returns-in-default c = search rules
+returns-in_default c = search rules

@@ -30,6 +30,6 @@ loop-code-preserved c = (
 
 pub returns : goal.returns
 returns c = record {
-  bytes = c.loop-code.invariant.0 ∙ ap step_lines (take_all c.loop-code.next (codes_of c.args.book.now) (entry_past _ _ c.in-default.ensures));
+  bytes = c.loop-code.invariant.0 ∙ ap step_lines (take_all c.loop-code.next (codes_of c.args.book.now) (entry_past _ _ c.in_default.ensures));
   accepted = c.loop-code.invariant.2;
 }

@@ -42,9 +42,9 @@ half_row-requires-in-2 g c =
       first = half_fits c.args.code c.args.states c.args.first are c.requires.first;
     }
 
-pub half_row-requires-in-default : goal.half_row-requires-in-default
-half_row-requires-in-default g c =
-    let all = ways_eight c.args.code (λ (e : c.args.code.numbers.checked ≡ 1). omega (arith, c.in-default)) (λ (e : c.args.code.numbers.checked ≡ 2). omega (arith, c.in-default)) in
+pub half_row-requires-in_default : goal.half_row-requires-in_default
+half_row-requires-in_default g c =
+    let all = ways_eight c.args.code (λ (e : c.args.code.numbers.checked ≡ 1). omega (arith, c.in_default)) (λ (e : c.args.code.numbers.checked ≡ 2). omega (arith, c.in_default)) in
     let are = c.requires.states in
     let most = states_most c.args.code in
     let room = c.requires.ways in
@@ -74,10 +74,10 @@ returns-in-2 g c =
     let known = known_by c.args.code bs g.row.K-Score-Score.worth c.args.states c.args.first 4 c.fill_ways.new.ways (ways_four c.args.code c.in-2.is) are c.requires.first told.from told.into in
     record { kept = c.half_row-in-2.ensures.kept; row = c.half_row-in-2.ensures.row c.args.code bs known are }
 
-pub returns-in-default : goal.returns-in-default
-returns-in-default g c =
+pub returns-in_default : goal.returns-in_default
+returns-in_default g c =
     let bs = survivors (survivor g.row.K-Score-Score.worth) c.args.best.now in
     let are = c.requires.states in
     let told = c.fill_ways.ensures in
-    let known = known_by c.args.code bs g.row.K-Score-Score.worth c.args.states c.args.first 8 c.fill_ways.new.ways (ways_eight c.args.code (λ (e : c.args.code.numbers.checked ≡ 1). omega (arith, c.in-default)) (λ (e : c.args.code.numbers.checked ≡ 2). omega (arith, c.in-default))) are c.requires.first told.from told.into in
-    record { kept = c.half_row-in-default.ensures.kept; row = c.half_row-in-default.ensures.row c.args.code bs known are }
+    let known = known_by c.args.code bs g.row.K-Score-Score.worth c.args.states c.args.first 8 c.fill_ways.new.ways (ways_eight c.args.code (λ (e : c.args.code.numbers.checked ≡ 1). omega (arith, c.in_default)) (λ (e : c.args.code.numbers.checked ≡ 2). omega (arith, c.in_default))) are c.requires.first told.from told.into in
+    record { kept = c.half_row-in_default.ensures.kept; row = c.half_row-in_default.ensures.row c.args.code bs known are }
