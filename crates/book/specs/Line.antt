@@ -1,5 +1,5 @@
 -- A code line: its nine columns and its end, and what is judged of their numbers.
-use Rattle.std.specs.Prelude.{ℕ, List, None, Ok, Err, Result}
+use Rattle.std.specs.Prelude.{ℕ, List, None, Ok}
 use Rattle.std.specs.Option.{unwrap_or}
 use Rattle.std.specs.Result.{result_map_both}
 use Rattle.trellis.specs.declared.Numbers.{Numbers}

@@ -1,4 +1,4 @@
-use Rattle.std.proofs.Common.{sym, refl, ap, arith, rules}
+use Rattle.std.proofs.Common.{sym, arith, rules}
 use Rattle.std.proofs.lemmas.Result.{err_from_is_err_and}
 use Rattle.std.proofs.lemmas.Bool.{eqb-false}
 use Rattle.book.proofs.Entries.{after_none, refused, one_more, shape_fault, number_fault, line_code}
@@ -20,7 +20,7 @@ returns-in_err-numbers c =
 
 pub returns-in_err-code : goal.returns-in_err-code
 returns-in_err-code c =
-    let p = err_from_is_err_and c.from_residual-in_err-code-in_err-code.result c.from_residual-in_err-code-in_err-code.ensures.1 in
+    let p = err_from_is_err_and c.from_residual-in_err-code.result c.from_residual-in_err-code.ensures.1 in
     let some = eqb-false _ _ (sym c.loop-rest-test.ensures) in
     rw (p.1, p.2) (record {
       answer =
