@@ -1,7 +1,7 @@
 -- The row of a count of symbols, as a part of the cells.
-use Rattle.std.proofs.Common.{◌≡◌, ℕ, ◌+◌, ◌-◌, ◌*◌, ◌/◌, ◌^◌, ◌<◌, ◌≤◌, List, map, length, get_or, take, drop, Some, None, Option, sym, refl, ap, ◌∙◌, subst, mul-le-mul_right, add-mul, one-mul, le-div_iff_mul-le, div-mul-le_self, arith, length-drop, length-take-le, get_or-drop, get_or-take}
+use Rattle.std.proofs.Common.{◌≡◌, ℕ, ◌+◌, ◌-◌, ◌*◌, ◌/◌, ◌^◌, ◌<◌, ◌≤◌, List, length, get_or, take, drop, Some, None, Option, sym, ap, ◌∙◌, subst, mul-le-mul_right, add-mul, one-mul, le-div_iff_mul-le, div-mul-le_self, arith, length-drop, length-take-le, get_or-drop, get_or-take}
 use Rattle.std.proofs.lemmas.List.{length-map, take-map, drop-map}
-use Rattle.receiver.specs.Cells.{survivor, survivors, no_survivor, row_of}
+use Rattle.receiver.specs.Cells.{survivors, no_survivor, row_of}
 use Rattle.receiver.specs.EndState.{BestEnds, BlockEnd}
 use Rattle.receiver.specs.declared.cell.Cell.{Cell}
 use Rattle.survivors.proofs.Join.{best_same}

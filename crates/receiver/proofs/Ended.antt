@@ -1,5 +1,5 @@
 -- What tell and deliver answer.
-use Rattle.std.proofs.Common.{◌≡◌, ℕ, zero, suc, ◌+◌, ◌-◌, ◌*◌, ◌/◌, ◌^◌, ◌<◌, ◌≤◌, Bool, true, false, cond, eqb, ltb, ◌⊎◌, List, [], ◌∷◌, ◌++◌, length, take, drop, Some, None, sym, refl, ap, ◌∙◌, subst, inl, inr, mul-le-mul_right, div-mul-le_self, arith}
+use Rattle.std.proofs.Common.{◌≡◌, ℕ, ◌+◌, ◌-◌, ◌*◌, ◌/◌, ◌^◌, ◌<◌, ◌≤◌, Bool, false, cond, eqb, ltb, ◌⊎◌, List, [], ◌∷◌, ◌++◌, length, take, drop, Some, None, sym, refl, ap, ◌∙◌, subst, inl, mul-le-mul_right, div-mul-le_self, arith}
 use lib.Seq.{take-append_seam}
 use Rattle.std.proofs.lemmas.List.{length-map}
 use Rattle.code.specs.declared.record.Code.{Code}
@@ -9,7 +9,7 @@ use Rattle.reception.specs.Accepted.{IsCode}
 use Rattle.reception.specs.Answer.{Answer, refused, told, delivered, Told, Delivered, NoPath, TellAnswers, DeliverAnswers}
 use Rattle.reception.specs.Block.{Block, block, deliver_refusal}
 use Rattle.reception.specs.Least.{Marks}
-use Rattle.reception.specs.Worth.{Scores, path_worth}
+use Rattle.reception.specs.Worth.{Scores}
 use Rattle.receiver.specs.Cells.{survivor, survivors}
 use Rattle.receiver.specs.Delivery.{numbers_in, Writes}
 use Rattle.receiver.specs.EndState.{BlockEnd}

@@ -1,17 +1,17 @@
 -- The row of survivors after a symbol, state by state.
-use Rattle.std.proofs.Common.{◌≡◌, ℕ, suc, ◌+◌, ◌*◌, ◌^◌, ◌<◌, ◌≤◌, List, length, get_or, take, set, sym, refl, ap, ◌∙◌, subst, ⊎_elim, suc-mul, add-one, arith}
+use Rattle.std.proofs.Common.{◌≡◌, ℕ, suc, ◌+◌, ◌*◌, ◌^◌, ◌<◌, ◌≤◌, List, length, get_or, take, set, sym, ap, ◌∙◌, subst, ⊎_elim, suc-mul, add-one, arith}
 use Rattle.std.proofs.lemmas.List.{get_or-set_same, get_or-set_other, get_or-take, take-set-le, take-take}
 use Rattle.std.proofs.lemmas.Bool.{cases_eq, cases_lt}
 use Rattle.code.specs.declared.record.Code.{Code}
 use Rattle.receiver.specs.Cells.{no_survivor, row_of}
 use Rattle.receiver.specs.Entered.{EntersBest, Exact, Given, row_from}
-use Rattle.receiver.specs.Grouped.{GroupBest, GroupsBest}
+use Rattle.receiver.specs.Grouped.{GroupsBest}
 use Rattle.receiver.specs.Scored.{Small, Holds, label_sum}
 use Rattle.receiver.specs.Stands.{RowMost}
 use Rattle.receiver.specs.Ways.{StatesBest}
 use Rattle.reception.specs.Worth.{Scores, label_worth}
-use Rattle.survivors.specs.Best.{Survivor, Best}
-use Rattle.survivors.specs.Rows.{back, Enters, through, AloneBefore, Follows}
+use Rattle.survivors.specs.Best.{Survivor}
+use Rattle.survivors.specs.Rows.{back, Follows}
 use Rattle.survivors.proofs.Join.{best_same}
 use Rattle.trellis.specs.declared.Numbers.{Numbers}
 use Rattle.trellis.specs.Mapper.{symbol_of}

@@ -1,8 +1,8 @@
 -- A block that was just opened.
-use Rattle.std.proofs.Common.{◌≡◌, ℕ, zero, suc, ◌+◌, ◌*◌, ◌^◌, ◌<◌, ◌≤◌, Bool, true, false, cond, eqb, ltb, List, [], ◌∷◌, length, get_or, sym, refl, ap, ◌∙◌, subst, zero-add, zero-mul, arith}
-use Rattle.reception.specs.Answer.{Answer, opened, unless_refused}
+use Rattle.std.proofs.Common.{◌≡◌, ℕ, zero, suc, ◌+◌, ◌*◌, ◌^◌, ◌<◌, ◌≤◌, Bool, false, cond, eqb, ltb, List, [], get_or, sym, ap, ◌∙◌, zero-add, zero-mul, arith}
+use Rattle.reception.specs.Answer.{opened, unless_refused}
 use Rattle.reception.specs.Block.{Block, block, opens, capacity, open_refusal, after}
-use Rattle.receiver.specs.Cells.{survivors, no_survivor, empty_path, row_of}
+use Rattle.receiver.specs.Cells.{survivors, no_survivor, empty_path}
 use Rattle.receiver.specs.Stands.{rows_in, RowMost, Holds}
 use Rattle.survivors.specs.Best.{Survivor}
 use Rattle.trellis.specs.declared.Numbers.{Numbers}

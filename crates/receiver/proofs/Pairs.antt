@@ -1,11 +1,11 @@
 -- The best branch into a state, pair of groups by pair.
-use Rattle.std.proofs.Common.{◌≡◌, ℕ, ◌+◌, ◌*◌, ◌/◌, ◌%◌, ◌^◌, ◌<◌, ◌≤◌, Bool, true, ◌&&◌, ◌⊎◌, List, length, get_or, sym, refl, ap, ◌∙◌, subst, inl, inr, ⊎_elim, mod-lt, add-one, arith, pow_pos}
+use Rattle.std.proofs.Common.{◌≡◌, ℕ, ◌+◌, ◌*◌, ◌/◌, ◌%◌, ◌^◌, ◌<◌, ◌≤◌, List, length, get_or, sym, refl, ap, ◌∙◌, subst, inl, inr, ⊎_elim, mod-lt, add-one, arith, pow_pos}
 use Rattle.std.proofs.lemmas.List.{get_or-map}
 use Rattle.std.proofs.lemmas.Bool.{and_parts, and_from, cases_eq}
 use Rattle.code.specs.declared.record.Code.{Code}
 use Rattle.receiver.specs.declared.cell.Cell.{Cell}
 use Rattle.receiver.specs.Cells.{survivor, survivors, no_survivor}
-use Rattle.receiver.specs.Entered.{continued, ByPair, PairBest, EntersBest}
+use Rattle.receiver.specs.Entered.{continued, PairBest, EntersBest}
 use Rattle.receiver.specs.Grouped.{InGroup, GroupBest, better}
 use Rattle.reception.specs.Worth.{Scores, label_worth}
 use Rattle.survivors.specs.Best.{Survivor, Best}

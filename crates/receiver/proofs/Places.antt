@@ -1,7 +1,7 @@
 -- The readings of a symbol's places, judged one after another.
-use Rattle.std.proofs.Common.{◌≡◌, ℕ, suc, ◌+◌, ◌-◌, ◌*◌, ◌/◌, ◌%◌, ◌<◌, ◌≤◌, Bool, true, false, ◌&&◌, eqb, List, length, take, drop, sym, refl, ap, ◌∙◌, ⊎_elim, add-zero, add-mul, one-mul, arith, length-drop, take_all}
+use Rattle.std.proofs.Common.{◌≡◌, ℕ, suc, ◌+◌, ◌-◌, ◌*◌, ◌/◌, ◌%◌, ◌<◌, false, ◌&&◌, eqb, List, length, take, drop, sym, ap, ◌∙◌, ⊎_elim, add-zero, add-mul, one-mul, arith, length-drop, take_all}
 use native.Mathlib.Nat.{mul-mod_right, mul-div_cancel_left, div-add-mod}
-use Rattle.std.proofs.lemmas.Bool.{eqb-true, eq-eqb, ne_eqb, cases_eq, cases_Bool}
+use Rattle.std.proofs.lemmas.Bool.{eq-eqb, ne_eqb, cases_eq}
 use Rattle.reception.specs.Front.{FrontMeaning}
 use Rattle.reception.specs.Reading.{all_fit}
 

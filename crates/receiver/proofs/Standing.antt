@@ -1,8 +1,8 @@
 -- A receiver with a block open, and what take answers then.
-use Rattle.std.proofs.Common.{◌≡◌, ℕ, zero, suc, ◌+◌, ◌-◌, ◌*◌, ◌/◌, ◌^◌, ◌<◌, ◌≤◌, min, Bool, true, false, cond, eqb, ltb, leb, List, [], ◌∷◌, ◌++◌, length, Some, None, Option, sym, refl, ap, ◌∙◌, subst, ⊎_elim, mul-le-mul_right, div-mul-le_self, arith}
-use Rattle.std.proofs.lemmas.Bool.{cases_Bool, leb-false, eqb-true}
+use Rattle.std.proofs.Common.{◌≡◌, ℕ, ◌+◌, ◌*◌, ◌/◌, ◌^◌, ◌<◌, ◌≤◌, Bool, true, false, cond, eqb, leb, List, [], ◌∷◌, ◌++◌, length, Some, None, Option, sym, refl, ap, ◌∙◌, subst, mul-le-mul_right, div-mul-le_self, arith}
+use Rattle.std.proofs.lemmas.Bool.{leb-false, eqb-true}
 use Rattle.code.specs.declared.record.Code.{Code}
-use Rattle.reception.specs.Answer.{Answer, refused, taken, unless_refused}
+use Rattle.reception.specs.Answer.{refused, taken, unless_refused}
 use Rattle.reception.specs.Block.{Block, no_block, block, takes, capacity, take_refusal, extended, after}
 use Rattle.reception.specs.Front.{FrontMeaning}
 use Rattle.reception.specs.Reading.{all_fit}

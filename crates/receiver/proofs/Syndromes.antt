@@ -1,7 +1,7 @@
 -- Which labels enter a state: only z0 and the checked bits matter, and of two labels that differ in z0 one enters.
-use Rattle.std.proofs.Common.{◌≡◌, ℕ, zero, suc, ◌+◌, ◌*◌, ◌/◌, ◌%◌, ◌^◌, ◌<◌, ◌≤◌, Bool, true, false, ◌&&◌, eqb, ltb, leb, ◌⊎◌, List, [], ◌∷◌, drop, Some, None, Option, unwrap_or, sym, refl, ap, ◌∙◌, subst, inl, inr, ⊎_elim, one-mul, mul-zero, zero-mul, arith}
-use lib.Bits.{bit_xor, xor_assoc, xor_comm, xor_zero_l, xor_zero_r}
-use Rattle.std.proofs.lemmas.Bool.{and_parts, cases_eq, cases_lt, false≢true, leb-true, lt-leb}
+use Rattle.std.proofs.Common.{◌≡◌, ℕ, zero, suc, ◌+◌, ◌*◌, ◌/◌, ◌%◌, ◌^◌, ◌<◌, ◌≤◌, Bool, true, false, ◌&&◌, eqb, ltb, leb, List, [], ◌∷◌, drop, Some, None, Option, unwrap_or, sym, refl, ap, ◌∙◌, subst, ⊎_elim, one-mul, mul-zero, zero-mul, arith}
+use lib.Bits.{bit_xor, xor_assoc, xor_comm}
+use Rattle.std.proofs.lemmas.Bool.{and_parts, cases_eq, false≢true, leb-true, lt-leb}
 use Rattle.code.specs.declared.record.Code.{Code}
 use Rattle.survivors.specs.Rows.{back}
 use Rattle.trellis.specs.declared.Numbers.{Numbers}
@@ -12,7 +12,7 @@ use Rattle.trellis.proofs.Branches.{In, into}
 use Rattle.trellis.proofs.Gather.{mod_double, bit_below}
 use Rattle.trellis.proofs.Polynomials.{polynomials-below}
 use Rattle.trellis.proofs.Sets.{unless-none}
-use Rattle.trellis.proofs.Syndromes.{syndrome-zero, syndrome_at}
+use Rattle.trellis.proofs.Syndromes.{syndrome_at}
 use Rattle.trellis.proofs.Turned.{xor-back}
 use Rattle.receiver.proofs.Limited.{checked_most, checked_least}
 

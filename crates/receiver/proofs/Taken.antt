@@ -1,9 +1,9 @@
 -- A block with one symbol more.
-use Rattle.std.proofs.Common.{◌≡◌, ℕ, zero, suc, ◌+◌, ◌*◌, ◌^◌, ◌<◌, ◌≤◌, List, [], ◌∷◌, ◌++◌, length, get_or, take, sym, refl, ap, ◌∙◌, subst, ⊎_elim, mul-le-mul_right, add-mul, one-mul, add-one, arith, length-append, get_or-take}
+use Rattle.std.proofs.Common.{◌≡◌, ℕ, suc, ◌+◌, ◌*◌, ◌^◌, ◌<◌, ◌≤◌, List, [], ◌∷◌, ◌++◌, length, get_or, take, sym, refl, ap, ◌∙◌, subst, ⊎_elim, mul-le-mul_right, add-mul, one-mul, add-one, arith, length-append, get_or-take}
 use Rattle.std.proofs.lemmas.Bool.{cases_lt}
 use Rattle.reception.specs.Block.{capacity}
 use Rattle.reception.specs.Worth.{Scores}
-use Rattle.receiver.specs.Cells.{survivors, no_survivor, row_of}
+use Rattle.receiver.specs.Cells.{survivors, no_survivor}
 use Rattle.receiver.specs.Stands.{rows_in, RowMost, Holds}
 use Rattle.survivors.proofs.Extend.{follows_same, rows_more}
 use Rattle.survivors.specs.Best.{Survivor}

@@ -1,5 +1,5 @@
 -- The ways into a half of the states.
-use Rattle.std.proofs.Common.{◌≡◌, ℕ, ◌+◌, ◌-◌, ◌*◌, ◌/◌, ◌^◌, ◌<◌, ◌≤◌, List, length, get_or, set, sym, refl, ap, ◌∙◌, subst, ⊎_elim, one-mul, add-one, arith}
+use Rattle.std.proofs.Common.{◌≡◌, ℕ, ◌+◌, ◌-◌, ◌*◌, ◌/◌, ◌^◌, ◌<◌, ◌≤◌, List, length, get_or, set, sym, ap, ◌∙◌, subst, ⊎_elim, one-mul, add-one, arith}
 use lib.Bits.{bit_xor, xor_assoc, xor_comm, xor_lt, xor_shifted, xor_zero_l}
 use Rattle.std.proofs.lemmas.List.{get_or-set_same, get_or-set_other}
 use Rattle.std.proofs.lemmas.Bool.{cases_eq}
@@ -8,7 +8,7 @@ use Rattle.receiver.specs.declared.entering.Way.{Way}
 use Rattle.receiver.specs.Cells.{survivor, no_survivor}
 use Rattle.receiver.specs.Entered.{Exact, PairBest, continued}
 use Rattle.receiver.specs.Grouped.{GroupsBest}
-use Rattle.receiver.specs.Ways.{StartsHalf, Into, Known, WaysFrom, WaysInto}
+use Rattle.receiver.specs.Ways.{StartsHalf, Known, WaysFrom, WaysInto}
 use Rattle.reception.specs.Worth.{Scores, label_worth}
 use Rattle.survivors.specs.Best.{Survivor}
 use Rattle.survivors.specs.Rows.{back}

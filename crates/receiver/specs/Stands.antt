@@ -1,5 +1,5 @@
 -- What a receiver stands for.
-use Rattle.std.specs.Prelude.{◌≡◌, ℕ, suc, ◌*◌, ◌^◌, ◌<◌, ◌≤◌, List, length, Some, None}
+use Rattle.std.specs.Prelude.{◌≡◌, ℕ, ◌*◌, ◌^◌, ◌<◌, ◌≤◌, List, length, Some, None}
 use Rattle.code.specs.declared.record.Code.{Code}
 use Rattle.reception.specs.Block.{Block, no_block, block, capacity}
 use Rattle.reception.specs.Worth.{Scores}

@@ -1,4 +1,4 @@
-use Rattle.std.proofs.Common.{◌≡◌, ℕ, ◌+◌, ◌-◌, ◌*◌, ◌^◌, ◌<◌, ◌≤◌, length, refl, arith}
+use Rattle.std.proofs.Common.{◌<◌, length, refl, arith}
 use Rattle.std.proofs.lemmas.List.{length-map}
 use Rattle.receiver.proofs.Ended.{end_there, deliver-end, deliver_too_short}
 use Rattle.receiver.proofs.Standing.{standing}
@@ -9,7 +9,7 @@ returns-then-words-count g c =
     let r = c.args.progress in
     record {
       answer = λ b s.
-          deliver_too_short g.K.Kept.says g.row.K-Score-Score.worth c.args.cells.now c.in-Some.code r.count b
+          deliver_too_short g.K.Kept.says g.K.Score.Score.worth c.args.cells.now c.in-Some.code r.count b
           (standing g.K.Kept.says c.args.cells.now r c.in-Some.code b c.in-Some.is s) (length c.args.words.now) (omega arith) (omega arith);
       beyond = refl;
     }
@@ -26,7 +26,7 @@ returns-in-Some-block_end g c =
     let r = c.args.progress in
     record {
       answer = λ b s.
-          deliver-end g.K.Kept.says g.row.K-Score-Score.worth c.args.cells.now c.in-Some.code r.count b
+          deliver-end g.K.Kept.says g.K.Score.Score.worth c.args.cells.now c.in-Some.code r.count b
           (standing g.K.Kept.says c.args.cells.now r c.in-Some.code b c.in-Some.is s) c.in-Some-block_end.end c.in-Some-block_end.ensures
           c.args.words.now c.deliver_words.new.words (omega arith) (omega arith) c.deliver_words.ensures.words;
       beyond = c.deliver_words.ensures.rest;
@@ -38,7 +38,7 @@ returns-in-None g c =
     let some : 0 < r.count = omega arith in
     record {
       answer = λ b s.
-          absurd (end_there g.K.Kept.says g.row.K-Score-Score.worth c.args.cells.now c.in-Some.code r.count b
+          absurd (end_there g.K.Kept.says g.K.Score.Score.worth c.args.cells.now c.in-Some.code r.count b
           (standing g.K.Kept.says c.args.cells.now r c.in-Some.code b c.in-Some.is s) some c.in-None.ensures);
       beyond = refl;
     }

@@ -1,7 +1,5 @@
-use Rattle.std.proofs.Common.{◌≡◌, ℕ, ◌+◌, ◌*◌, ◌^◌, ◌<◌, false, ltb, length, get_or, sym, refl, ap, ◌∙◌, subst, arith}
+use Rattle.std.proofs.Common.{◌≡◌, ℕ, ◌+◌, ◌*◌, ◌^◌, ◌<◌, false, ltb, length, get_or, sym, refl, ◌∙◌, arith}
 use Rattle.receiver.specs.Cells.{survivors, no_survivor, empty_path}
-use Rattle.reception.specs.Block.{Block}
-use Rattle.receiver.specs.Stands.{Stands}
 use Rattle.receiver.proofs.Opened.{opened_block, opened_answer, opened_holds}
 use Rattle.receiver.proofs.calls.open.Goals as goal
 

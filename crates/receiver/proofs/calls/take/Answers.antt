@@ -1,5 +1,4 @@
-use Rattle.std.proofs.Common.{◌≡◌, ℕ, suc, ◌+◌, ◌*◌, ◌^◌, [], ◌∷◌, ◌++◌, length, sym, refl, ap, ◌∙◌, subst, add-one, arith, length-append}
-use Rattle.reception.specs.Block.{Block}
+use Rattle.std.proofs.Common.{◌+◌, [], ◌∷◌, ◌++◌, length, arith, length-append}
 use Rattle.reception.specs.Worth.{scores_of}
 use Rattle.receiver.proofs.Standing.{standing, stands_again, take-refused, take_left, take_answered, take_more, takeable, row_room}
 use Rattle.receiver.proofs.Taken.{extended_holds}

@@ -1,4 +1,4 @@
-use Rattle.std.proofs.Common.{◌≡◌, ℕ, ◌+◌, ◌*◌, ◌/◌, ◌^◌, ◌<◌, ◌≤◌, arith}
+use Rattle.std.proofs.Common.{◌+◌, arith}
 use Rattle.receiver.specs.Cells.{survivors}
 use Rattle.receiver.specs.Entered.{row_from}
 use Rattle.receiver.proofs.Pairs.{pairs_one, pairs_more, pairs_all}
@@ -17,7 +17,7 @@ loop-pair-init g c =
     let some = c.requires.some in
     λ k bs first known small s groups exact.
     pairs_one k.numbers s row (first + c.args.step) _
-    (way_best k s row bs g.row.K-Score-Score.worth first c.args.step g.row.N 0 c.args.ways.now c.index-ways-0.result _ known small (omega arith) c.index-ways-0.is groups exact c.by_way-found.ensures)
+    (way_best k s row bs g.K.Score.Score.worth first c.args.step g.row.N 0 c.args.ways.now c.index-ways-0.result _ known small (omega arith) c.index-ways-0.is groups exact c.by_way-found.ensures)
 
 pub loop-pair-preserved : goal.loop-pair-preserved
 loop-pair-preserved g c =
@@ -25,7 +25,7 @@ loop-pair-preserved g c =
     let pair = c.loop-pair.pair in
     λ k bs first known small s groups exact.
     pairs_more k.numbers s row (first + c.args.step) pair _ _ _ c.better-found.ensures (c.loop-pair.invariant k bs first known small s groups exact)
-    (way_best k s row bs g.row.K-Score-Score.worth first c.args.step g.row.N pair c.args.ways.now c.index-ways-pair.result _ known small c.loop-pair-test.true c.index-ways-pair.is groups exact c.by_way.ensures)
+    (way_best k s row bs g.K.Score.Score.worth first c.args.step g.row.N pair c.args.ways.now c.index-ways-pair.result _ known small c.loop-pair-test.true c.index-ways-pair.is groups exact c.by_way.ensures)
 
 pub returns : goal.returns
 returns g c =

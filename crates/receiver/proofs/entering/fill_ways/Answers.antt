@@ -1,4 +1,4 @@
-use Rattle.std.proofs.Common.{◌≡◌, ℕ, ◌+◌, ◌^◌, ◌<◌, List, length, sym, subst, arith}
+use Rattle.std.proofs.Common.{ℕ, ◌+◌, ◌<◌, List, length, sym, subst, arith}
 use Rattle.receiver.specs.declared.entering.Way.{Way}
 use Rattle.receiver.specs.Cells.{survivor, survivors}
 use Rattle.receiver.specs.Ways.{WaysFrom, WaysInto, Into}
@@ -8,7 +8,7 @@ use Rattle.receiver.proofs.entering.fill_ways.Goals as goal
 
 pub loop-pair-preserved : goal.loop-pair-preserved
 loop-pair-preserved g c =
-    let worth = g.row.S-Score.worth in
+    let worth = g.S.Score.worth in
     let n = c.args.code.numbers in
     let best = c.args.best.now in
     let bs = survivors (survivor worth) best in

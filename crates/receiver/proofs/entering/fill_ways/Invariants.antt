@@ -5,4 +5,4 @@ use Rattle.receiver.proofs.entering.fill_ways.Given as goal
 abbrev pub invariant-loop-pair : goal.invariant-loop-pair
 invariant-loop-pair g l =
     WaysFrom l.states l.pair l.ways
-    × WaysInto l.code.numbers (survivors (survivor g.row.S-Score.worth) l.best) g.row.S-Score.worth l.first l.pair l.ways
+    × WaysInto l.code.numbers (survivors (survivor g.S.Score.worth) l.best) g.S.Score.worth l.first l.pair l.ways

@@ -6,7 +6,7 @@ use Rattle.receiver.proofs.extend.extend_by.Goals as goal
 
 pub returns : goal.returns
 returns g c =
-    let worth = g.row.K-Score-Score.worth in
+    let worth = g.K.Score.Score.worth in
     let says = g.K.Kept.says in
     let n = c.args.code.numbers in
     let count = c.args.count in

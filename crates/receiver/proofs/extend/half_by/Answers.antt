@@ -1,4 +1,4 @@
-use Rattle.std.proofs.Common.{◌≡◌, ◌+◌, ◌*◌, ◌/◌, ◌^◌, ◌<◌, ◌≤◌, arith}
+use Rattle.std.proofs.Common.{◌≡◌, arith}
 use Rattle.receiver.specs.Cells.{survivor, survivors}
 use Rattle.receiver.proofs.Limited.{states_most}
 use Rattle.receiver.proofs.Ways.{half_first, half_fits, known_by, ways_two, ways_four, ways_eight}
@@ -60,24 +60,24 @@ half_row-requires-in_default g c =
 
 pub returns-in-1 : goal.returns-in-1
 returns-in-1 g c =
-    let bs = survivors (survivor g.row.K-Score-Score.worth) c.args.best.now in
+    let bs = survivors (survivor g.K.Score.Score.worth) c.args.best.now in
     let are = c.requires.states in
     let told = c.fill_ways.ensures in
-    let known = known_by c.args.code bs g.row.K-Score-Score.worth c.args.states c.args.first 2 c.fill_ways.new.ways (ways_two c.args.code c.in-1.is) are c.requires.first told.from told.into in
+    let known = known_by c.args.code bs g.K.Score.Score.worth c.args.states c.args.first 2 c.fill_ways.new.ways (ways_two c.args.code c.in-1.is) are c.requires.first told.from told.into in
     record { kept = c.half_row.ensures.kept; row = c.half_row.ensures.row c.args.code bs known are }
 
 pub returns-in-2 : goal.returns-in-2
 returns-in-2 g c =
-    let bs = survivors (survivor g.row.K-Score-Score.worth) c.args.best.now in
+    let bs = survivors (survivor g.K.Score.Score.worth) c.args.best.now in
     let are = c.requires.states in
     let told = c.fill_ways.ensures in
-    let known = known_by c.args.code bs g.row.K-Score-Score.worth c.args.states c.args.first 4 c.fill_ways.new.ways (ways_four c.args.code c.in-2.is) are c.requires.first told.from told.into in
+    let known = known_by c.args.code bs g.K.Score.Score.worth c.args.states c.args.first 4 c.fill_ways.new.ways (ways_four c.args.code c.in-2.is) are c.requires.first told.from told.into in
     record { kept = c.half_row-in-2.ensures.kept; row = c.half_row-in-2.ensures.row c.args.code bs known are }
 
 pub returns-in_default : goal.returns-in_default
 returns-in_default g c =
-    let bs = survivors (survivor g.row.K-Score-Score.worth) c.args.best.now in
+    let bs = survivors (survivor g.K.Score.Score.worth) c.args.best.now in
     let are = c.requires.states in
     let told = c.fill_ways.ensures in
-    let known = known_by c.args.code bs g.row.K-Score-Score.worth c.args.states c.args.first 8 c.fill_ways.new.ways (ways_eight c.args.code (λ (e : c.args.code.numbers.checked ≡ 1). omega (arith, c.in_default)) (λ (e : c.args.code.numbers.checked ≡ 2). omega (arith, c.in_default))) are c.requires.first told.from told.into in
+    let known = known_by c.args.code bs g.K.Score.Score.worth c.args.states c.args.first 8 c.fill_ways.new.ways (ways_eight c.args.code (λ (e : c.args.code.numbers.checked ≡ 1). omega (arith, c.in_default)) (λ (e : c.args.code.numbers.checked ≡ 2). omega (arith, c.in_default))) are c.requires.first told.from told.into in
     record { kept = c.half_row-in_default.ensures.kept; row = c.half_row-in_default.ensures.row c.args.code bs known are }

@@ -1,4 +1,4 @@
-use Rattle.std.proofs.Common.{◌≡◌, ◌+◌, ◌*◌, ◌^◌, ◌<◌, ◌≤◌, List, length, take, sym, ap, ◌∙◌, subst, arith}
+use Rattle.std.proofs.Common.{◌+◌, ◌*◌, ◌≤◌, List, length, take, sym, ap, ◌∙◌, subst, arith}
 use lib.Bits.{xor_lt}
 use Rattle.std.proofs.lemmas.List.{length-map}
 use Rattle.receiver.specs.Cells.{survivor, survivors}
@@ -38,7 +38,7 @@ loop-step-preserved g c =
     let first = survivors says c.args.cells.now in
     let cells = survivors says c.loop-step.cells in
     let room : at + states + states ≤ length cells = omega (arith, c.requires.room, c.loop-step.auto.cells, length-map c.loop-step.cells says) in
-    let cell = survivor g.row.K-Score-Score.worth c.entering-cell.result in
+    let cell = survivor g.K.Score.Score.worth c.entering-cell.result in
     let is = c.put.ensures in (
       ap (take (at + states + from)) is ∙ kept_more first cells (at + states + from) (at + states + from + step) cell (omega arith) c.loop-step.invariant.0,
       λ k bs known are. subst (λ (cs : List Survivor). StatesBest k.numbers (row_from first at) bs (row_from cs (at + states)) from (from + (step + 1))) (sym is)

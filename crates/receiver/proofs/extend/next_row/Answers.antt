@@ -1,4 +1,4 @@
-use Rattle.std.proofs.Common.{◌≡◌, ℕ, ◌+◌, ◌*◌, ◌/◌, ◌^◌, ◌≤◌, take, sym, refl, ap, ◌∙◌, subst, inl, inr, arith}
+use Rattle.std.proofs.Common.{◌≡◌, ℕ, ◌+◌, ◌*◌, ◌/◌, ◌^◌, take, refl, ◌∙◌, subst, inl, inr, arith}
 use Rattle.receiver.specs.Cells.{survivor, survivors}
 use Rattle.receiver.proofs.Following.{take_less, halves}
 use Rattle.receiver.proofs.Ways.{states_even}
@@ -21,7 +21,7 @@ returns g c =
     let at = c.args.at in
     let states = c.args.states in
     let half = states / 2 in
-    let bs = survivors (survivor g.row.K-Score-Score.worth) c.args.best.now in
+    let bs = survivors (survivor g.K.Score.Score.worth) c.args.best.now in
     let first = survivors says c.args.cells.now in
     let middle = survivors says c.half_by.new.cells in
     let last = survivors says c.half_by-2.new.cells in

@@ -1,4 +1,4 @@
-use Rattle.std.proofs.Common.{◌≡◌, ℕ, ◌+◌, ◌-◌, ◌*◌, ◌^◌, ◌<◌, ◌≤◌, length, sym, refl, ap, ◌∙◌, subst, arith, rules}
+use Rattle.std.proofs.Common.{ℕ, ◌+◌, ◌*◌, ◌^◌, ◌≤◌, length, sym, subst, arith, rules}
 use Rattle.std.proofs.lemmas.List.{length-map}
 use Rattle.receiver.proofs.EndRow.{row_in, row_out, block_end_by}
 use Rattle.receiver.proofs.finish.block_end.Goals as goal
@@ -31,4 +31,4 @@ returns g c =
     let least = c.states_of-states.ensures.least in
     let room = row_in c.args.count c.states_of-states.result (length c.args.cells.now) c.if-count-cells.false in
     let fits : c.args.count * 2 ^ n.memory + 2 ^ n.memory ≤ length c.args.cells.now = subst (λ (k : ℕ). c.args.count * k + k ≤ length c.args.cells.now) is room in
-    block_end_by g.K.Kept.says c.args.cells.now n c.args.count fits g.row.K-Score-Score.worth c.states_of-states.result is (omega arith) c.best_end.result c.best_end.ensures
+    block_end_by g.K.Kept.says c.args.cells.now n c.args.count fits g.K.Score.Score.worth c.states_of-states.result is (omega arith) c.best_end.result c.best_end.ensures

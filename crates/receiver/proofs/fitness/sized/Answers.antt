@@ -1,4 +1,4 @@
-use Rattle.std.proofs.Common.{◌≡◌, ◌<◌, length, sym, ◌∙◌, arith}
+use Rattle.std.proofs.Common.{length, ◌∙◌, arith}
 use Rattle.trellis.proofs.Sets.{within}
 use Rattle.receiver.proofs.Places.{sized_by}
 use Rattle.receiver.proofs.fitness.sized.Goals as goal

@@ -1,4 +1,4 @@
-use Rattle.std.proofs.Common.{◌≡◌, ℕ, ◌<◌, map, sym, ◌∙◌, subst, arith}
+use Rattle.std.proofs.Common.{map, arith}
 use Rattle.receiver.specs.Scored.{label_sum}
 use Rattle.receiver.proofs.Limited.{labels_most, groups_most, groups_some, groups_labels}
 use Rattle.receiver.proofs.Residues.{first_residue, next_residue, first_best, next_best, all_best}
@@ -22,7 +22,7 @@ overflow_add-label-in-loop-label g c =
 
 pub loop-label-init : goal.loop-label-init
 loop-label-init g c =
-    let ws = map g.row.S-Score.worth c.args.table.now in
+    let ws = map g.S.Score.worth c.args.table.now in
     let few = groups_labels c.args.code in
     let stride = c.requires.stride in (
       first_residue c.args.group c.args.stride c.requires.group,
@@ -31,7 +31,7 @@ loop-label-init g c =
 
 pub loop-label-preserved : goal.loop-label-preserved
 loop-label-preserved g c =
-    let ws = map g.row.S-Score.worth c.args.table.now in
+    let ws = map g.S.Score.worth c.args.table.now in
     let is = c.requires.labels in
     let h = c.loop-label-test.true in (
       next_residue c.loop-label.label c.args.stride c.args.group c.loop-label.invariant.0,
@@ -45,7 +45,7 @@ loop-label-smaller g c =
 
 pub returns : goal.returns
 returns g c =
-    let ws = map g.row.S-Score.worth c.args.table.now in
+    let ws = map g.S.Score.worth c.args.table.now in
     let is = c.requires.labels in
     let h = c.loop-label-test.false in
     λ small. all_best c.args.code.numbers (label_sum c.args.code.numbers ws) c.args.group c.args.stride c.requires.stride c.loop-label.label _ (omega arith) (c.loop-label.invariant.1 small)

@@ -7,7 +7,7 @@ use Rattle.receiver.proofs.group.best_label.Given as goal
 abbrev pub invariant-loop-label : goal.invariant-loop-label
 invariant-loop-label g l =
     (l.label % l.stride ≡ l.group)
-    × (Small (map g.row.S-Score.worth l.table) → BestBefore l.code.numbers (label_sum l.code.numbers (map g.row.S-Score.worth l.table)) l.group l.label (survivor g.row.S-Score.worth l.best))
+    × (Small (map g.S.Score.worth l.table) → BestBefore l.code.numbers (label_sum l.code.numbers (map g.S.Score.worth l.table)) l.group l.label (survivor g.S.Score.worth l.best))
 
 abbrev pub decreases-loop-label : goal.decreases-loop-label
 decreases-loop-label g l = l.labels - l.label

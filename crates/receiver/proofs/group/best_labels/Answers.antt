@@ -1,4 +1,4 @@
-use Rattle.std.proofs.Common.{◌≡◌, ℕ, ◌+◌, ◌<◌, List, map, length, sym, subst, arith}
+use Rattle.std.proofs.Common.{◌+◌, ◌<◌, List, map, length, sym, subst, arith}
 use Rattle.receiver.specs.declared.cell.Cell.{Cell}
 use Rattle.receiver.specs.Cells.{survivor, survivors}
 use Rattle.receiver.specs.Grouped.{GroupsBest}
@@ -13,15 +13,15 @@ best_label-cell-requires g c =
 pub loop-group-preserved : goal.loop-group-preserved
 loop-group-preserved g c =
     let n = c.args.code.numbers in
-    let f = label_sum n (map g.row.S-Score.worth c.args.table.now) in
+    let f = label_sum n (map g.S.Score.worth c.args.table.now) in
     let group = c.loop-group.group in
     let few = c.groups_of-groups.ensures.most in
     let taken = c.loop-group-test.true in
     let room = c.requires.best in
     let kept = c.loop-group.auto.best in
     let within : group < length c.loop-group.best = omega arith in
-    λ small. subst (λ (cs : List (Cell g.row.S.Denot)). GroupsBest n f (group + 1) (survivors (survivor g.row.S-Score.worth) cs)) (sym c.put.ensures)
-    (groups_more g.row.S-Score.worth n f group c.loop-group.best c.best_label-cell.result within (c.best_label-cell.ensures small) (c.loop-group.invariant small))
+    λ small. subst (λ (cs : List (Cell g.row.S.Denot)). GroupsBest n f (group + 1) (survivors (survivor g.S.Score.worth) cs)) (sym c.put.ensures)
+    (groups_more g.S.Score.worth n f group c.loop-group.best c.best_label-cell.result within (c.best_label-cell.ensures small) (c.loop-group.invariant small))
 
 pub returns : goal.returns
 returns g c =

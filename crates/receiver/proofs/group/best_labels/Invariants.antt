@@ -6,4 +6,4 @@ use Rattle.receiver.proofs.group.best_labels.Given as goal
 
 abbrev pub invariant-loop-group : goal.invariant-loop-group
 invariant-loop-group g l =
-    Small (map g.row.S-Score.worth l.table) → GroupsBest l.code.numbers (label_sum l.code.numbers (map g.row.S-Score.worth l.table)) l.group (survivors (survivor g.row.S-Score.worth) l.best)
+    Small (map g.S.Score.worth l.table) → GroupsBest l.code.numbers (label_sum l.code.numbers (map g.S.Score.worth l.table)) l.group (survivors (survivor g.S.Score.worth) l.best)

@@ -7,5 +7,5 @@ loop-m-init g c = filled_none _ _ _
 
 pub loop-m-preserved : goal.loop-m-preserved
 loop-m-preserved g c =
-    filled_more g.row.S-Score.worth c.loop-m.table c.args.table.now c.args.start c.loop-m.m c.score.result
+    filled_more g.S.Score.worth c.loop-m.table c.args.table.now c.args.start c.loop-m.m c.score.result
     ((g.F.Front.meaning c.args.front.now).worth c.args.phases c.args.reading.now) (omega arith) c.score.ensures.worth c.score.ensures.small c.loop-m.invariant

@@ -37,7 +37,7 @@ loop-place-preserved g c =
     let meaning = g.F.Front.meaning c.args.front.now in
     let is = part_is _ c.args.words c.loop-place.at place c.args.reading.now c.requires.words c.loop-place.invariant.0 in (
       next_part _ _ _ c.loop-place.invariant.0,
-      holds_more _ (map g.row.S-Score.worth c.loop-place.table) phases (scores_of meaning phases c.args.reading.now) place _ (phases_most c.args.code) c.fill_place.ensures
+      holds_more _ (map g.S.Score.worth c.loop-place.table) phases (scores_of meaning phases c.args.reading.now) place _ (phases_most c.args.code) c.fill_place.ensures
           (λ m. ap (λ (ws : List ℕ). meaning.worth phases ws m) is) c.loop-place.invariant.1,
       λ small. c.fill_place.ensures.small (c.loop-place.invariant.2 small),
     )

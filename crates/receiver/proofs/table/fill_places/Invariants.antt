@@ -6,5 +6,5 @@ use Rattle.receiver.proofs.table.fill_places.Given as goal
 abbrev pub invariant-loop-place : goal.invariant-loop-place
 invariant-loop-place g l =
     (l.at ≡ l.place * l.words)
-    × Holds (map g.row.S-Score.worth l.table) l.code.numbers.phases (scores_of (g.F.Front.meaning l.front) l.code.numbers.phases l.reading) l.place
-    × (Small (map g.row.S-Score.worth l.initial.table) → Small (map g.row.S-Score.worth l.table))
+    × Holds (map g.S.Score.worth l.table) l.code.numbers.phases (scores_of (g.F.Front.meaning l.front) l.code.numbers.phases l.reading) l.place
+    × (Small (map g.S.Score.worth l.initial.table) → Small (map g.S.Score.worth l.table))

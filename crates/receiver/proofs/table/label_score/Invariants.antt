@@ -4,4 +4,4 @@ use Rattle.receiver.proofs.table.label_score.Given as goal
 
 abbrev pub invariant-loop-place : goal.invariant-loop-place
 invariant-loop-place g l =
-    Small (map g.row.S-Score.worth l.table) → g.row.S-Score.worth l.sum ≡ places_sum (map g.row.S-Score.worth l.table) l.symbol l.place
+    Small (map g.S.Score.worth l.table) → g.S.Score.worth l.sum ≡ places_sum (map g.S.Score.worth l.table) l.symbol l.place
