@@ -1,7 +1,7 @@
 -- What the functions of C answer and write.
 use Rattle.std.specs.Prelude.{ℕ, cond, List, ◌++◌, length, drop, Some, None, Ok, Err, Option, Result, ◌==◌, nat_le}
 use Rattle.book.specs.declared.fault.Fault.{Fault}
-use Rattle.book.specs.Book.{book_of, entry_of}
+use Rattle.book.specs.Book.{entry_of}
 use Rattle.book.specs.Fault.{fault_number, fault_line, fault_column}
 use Rattle.code.specs.declared.flaw.Flaw.{Flaw}
 use Rattle.code.specs.Flaw.{judged, flaw_number, flaw_column}
@@ -12,7 +12,7 @@ use Rattle.kamzhules.specs.declared.structs.CSymbol.{CSymbol}
 use Rattle.kamzhules.specs.Structs.{numbers_in, code_out, fault, standing_of, sender_at}
 use Rattle.sender.specs.declared.refusal.SendRefusal.{SendRefusal}
 use Rattle.sender.specs.Refusal.{refusal_number}
-use Rattle.sender.specs.Sender.{Standing, answer, after}
+use Rattle.sender.specs.Sender.{answer, after}
 use Rattle.trellis.specs.declared.Numbers.{Numbers}
 use Rattle.trellis.specs.Mapper.{symbol_of}
 use Rattle.trellis.specs.Step.{step}

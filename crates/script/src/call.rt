@@ -19,7 +19,7 @@ pub enum Call {
 pub fn read_call(line: &[u8]) -> Call
     ensures { result ≡ call_of line.now }
 {
-    if line == b"end" {
+    if line == b"end".as_slice() {
         return Call::End;
     }
     if let Some(digits) = follows(line, b"begin ") {
