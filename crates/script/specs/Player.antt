@@ -1,5 +1,5 @@
 -- What the calls of a script answer, and the sender's state after each.
-use Rattle.std.specs.Prelude.{ℕ, List, [], Some, None, Ok, Err, Option, Result}
+use Rattle.std.specs.Prelude.{ℕ, List, Some, None, Ok, Err, Option, Result}
 use Rattle.book.specs.Book.{entry_of}
 use Rattle.sender.specs.declared.refusal.SendRefusal.{SendRefusal}
 use Rattle.sender.specs.Refusal.{refusal_number}
