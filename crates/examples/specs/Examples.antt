@@ -65,7 +65,7 @@ pub record Examples : Type 0 where
   pub odd_top : HasStep (two 1 8 0 3 0o11 0o2 0o4) 8
   pub even_top : HasStep (two 1 8 0 4 0o23 0o6 0o14) 4
   pub four_places : HasStep four_place_code 1
-  pub two-places : HasStep (one 2 8 0 2 0o5 0o2) 2
+  pub two_places : HasStep (one 2 8 0 2 0o5 0o2) 2
   -- a parity bit that would be differential
   pub parity : judged (one 2 4 1 2 0o5 0o2) ≡ Err Parity
   pub parity_number : flaw_number Parity ≡ 5

@@ -12,7 +12,7 @@ returns c =
         odd_top = record { accepted = refl; is = refl };
         even_top = record { accepted = refl; is = refl };
         four_places = record { accepted = refl; is = refl };
-        two-places = record { accepted = refl; is = refl };
+        two_places = record { accepted = refl; is = refl };
         parity = refl;
         parity_number = refl;
         one_place_burst = refl;
