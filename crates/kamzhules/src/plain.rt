@@ -7,9 +7,9 @@ ghost use Rattle.kamzhules.specs.Receivers.{open_number, open_symbols, open_rece
 ghost use Rattle.kamzhules.specs.Structs.{numbers_in};
 
 use crate::cells::{CPlainCell, mark};
-use crate::fronts::{LOST_TABLE, NO_FRONT, TABLE};
 use crate::receivers::{deliver_by, open_by, take_by, tell_by};
 use crate::structs::{CCode, CDelivered, CReceiver, CTold};
+use crate::turning::{LOST_TABLE, NO_FRONT, TABLE};
 use fronts::{Lost, Table};
 
 // Starts an empty block, and tells how many symbols it holds.

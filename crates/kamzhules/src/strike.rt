@@ -7,9 +7,9 @@ ghost use Rattle.kamzhules.specs.Receivers.{open_number, open_symbols, open_rece
 ghost use Rattle.kamzhules.specs.Structs.{numbers_in};
 
 use crate::cells::{CStrikeCell, mark};
-use crate::fronts::{LOST_STRIKE, NO_FRONT, STRIKE};
 use crate::receivers::{deliver_by, open_by, take_by, tell_by};
 use crate::structs::{CCode, CDelivered, CReceiver, CTold};
+use crate::turning::{LOST_STRIKE, NO_FRONT, STRIKE};
 use fronts::{Lost, Strike};
 
 // Starts an empty block, and tells how many symbols it holds.

@@ -3,33 +3,33 @@
 
 #![tactic(auto)]
 
-use anyhow::anyhow;
 use book::Book;
 use listing::listing;
 use script::{Answer, Sender, book_size, first_call, play};
 use sender::Quiet;
 use std::io;
 use std::io::{Read, Write};
+use std::process::ExitCode;
 
-fn main(rt: HostRuntime) -> anyhow::Result<()> {
+fn main(rt: HostRuntime) -> io::Result<ExitCode> {
     let mut text = Vec::new(rt.alloc());
     rt.stdin().read_to_end(&mut text)?;
     run(&rt, text.as_slice())
 }
 
-fn run(rt: &HostRuntime, text: &[u8]) -> anyhow::Result<()> {
+fn run(rt: &HostRuntime, text: &[u8]) -> io::Result<ExitCode> {
     let (book_text, rest) = text.split_at(book_size(text));
     let mut book = Book::new();
     match book.load(book_text) {
         Ok(count) => {
             println!(rt; "codes {count}")?;
             play_all(rt, &book, calls(rest))?;
-            Ok(())
+            Ok(ExitCode::SUCCESS)
         }
         Err(_) => {
             let lines = listing(book_text);
             rt.stdout().write_all(lines.as_bytes())?;
-            Err(anyhow!("refused"))
+            Ok(ExitCode::FAILURE)
         }
     }
 }

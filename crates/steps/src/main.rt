@@ -5,20 +5,20 @@
 
 ghost use Rattle.std.specs.Prelude.{◌≤◌, length, IfOk};
 
-use anyhow::anyhow;
 use listing::listing;
 use std::io;
 use std::io::{Read, Write};
+use std::process::ExitCode;
 
-fn main(rt: HostRuntime) -> anyhow::Result<()> {
+fn main(rt: HostRuntime) -> io::Result<ExitCode> {
     let mut text = [0u8; 4097];
     let size = read_up_to(&mut rt.stdin(), &mut text)?;
     let lines = listing(&text[0..size]);
     rt.stdout().write_all(lines.as_bytes())?;
     if lines.refused {
-        return Err(anyhow!("refused"));
+        return Ok(ExitCode::FAILURE);
     }
-    Ok(())
+    Ok(ExitCode::SUCCESS)
 }
 
 // Reads until the buffer is full or the input ends, and answers how many bytes came.
