@@ -1,6 +1,6 @@
 /* Sends a burst with a code of a book and prints its phases.
  *
- *   cc -std=c11 -Wall -Wextra -Werror -I include c/burst.c target/staticlib/libkamzhules.a -o target/burst
+ *   cc -std=c11 -Wall -Wextra -Werror -I include c/burst.c crates/kamzhules/out/libkamzhules.a -o target/burst
  */
 #include <stdio.h>
 #include <stdlib.h>

@@ -1,7 +1,7 @@
 /* Sends a burst, reads its phases clean, receives it and prints what comes back, also with the carrier turned and with a
  * symbol lost.
  *
- *   cc -std=c11 -Wall -Wextra -Werror -I include c/receive.c target/staticlib/libkamzhules.a -o target/receive
+ *   cc -std=c11 -Wall -Wextra -Werror -I include c/receive.c crates/kamzhules/out/libkamzhules.a -o target/receive
  */
 #include <stdio.h>
 #include <stdlib.h>

@@ -4,10 +4,11 @@
 set -euo pipefail
 
 cd "$(dirname "${BASH_SOURCE[0]}")/.."
-rt staticlib kamzhules
+(cd crates/kamzhules && rt lib)
+mkdir -p target
 
 for program in burst receive; do
-    cc -std=c11 -Wall -Wextra -Werror -I include "c/$program.c" target/staticlib/libkamzhules.a -o "target/$program"
+    cc -std=c11 -Wall -Wextra -Werror -I include "c/$program.c" crates/kamzhules/out/libkamzhules.a -o "target/$program"
     valgrind -q --error-exitcode=9 "target/$program" >"target/$program.out"
     diff "c/$program.out" "target/$program.out"
     echo "c/$program.c: as expected, and valgrind has no complaint"

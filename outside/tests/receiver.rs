@@ -689,7 +689,7 @@ fn the_numbers_of_the_header() {
     let refusals = include_str!("../../crates/receiver/specs/Refusal.antt");
     let flaws = include_str!("../../crates/code/specs/Flaw.antt");
     let fronts = include_str!("../../crates/kamzhules/specs/Fronts.antt");
-    let refusal = |name: &str| defined(refusals, &format!("refusalNumber {name}"));
+    let refusal = |name: &str| defined(refusals, &format!("refusal_number {name}"));
     let code = Numbers { places: 1, phases: 8, offset: 0, checked: 1, memory: 2, h: [5, 2, 0, 0] };
     let mut random = Random::new(29);
     let mut few: Library<PlainCell> = Library::new(&mut random, 15);
@@ -720,13 +720,13 @@ fn the_numbers_of_the_header() {
             other => panic!("{name}: {other:?}"),
         };
         let (due, answers): (u8, Vec<u8>) = match name {
-            "KZ_OK" => (defined(fronts, "turnNumber (Some f)"), vec![full.tell().0, full.deliver(2).0]),
-            "KZ_LIMIT" => (defined(flaws, "flawNumber (Limit column)"), flawed(Numbers { places: 3, ..code })),
+            "KZ_OK" => (defined(fronts, "turn_number (Some f)"), vec![full.tell().0, full.deliver(2).0]),
+            "KZ_LIMIT" => (defined(flaws, "flaw_number (Limit column)"), flawed(Numbers { places: 3, ..code })),
             "KZ_POLYNOMIAL" => {
-                (defined(flaws, "flawNumber (Polynomial column)"), flawed(Numbers { h: [4, 2, 0, 0], ..code }))
+                (defined(flaws, "flaw_number (Polynomial column)"), flawed(Numbers { h: [4, 2, 0, 0], ..code }))
             }
             "KZ_PARITY" => {
-                (defined(flaws, "flawNumber Parity"), flawed(Numbers { places: 2, phases: 4, offset: 1, ..code }))
+                (defined(flaws, "flaw_number Parity"), flawed(Numbers { places: 2, phases: 4, offset: 1, ..code }))
             }
             "KZ_LENGTH" => (refusal("Length"), vec![refused(open.call(&Call::Take(0, vec![0; 7])))]),
             "KZ_UNFIT" => (refusal("Unfit"), vec![refused(open.call(&Call::Take(2, vec![7; 9])))]),
@@ -740,7 +740,7 @@ fn the_numbers_of_the_header() {
             "KZ_SHORT" => (refusal("Few"), vec![refused(open.call(&Call::Deliver(9)))]),
             "KZ_NO_PATH" => (refusal("NoPath"), vec![]),
             "KZ_NO_FRONT" => (
-                defined(fronts, "turnNumber None"),
+                defined(fronts, "turn_number None"),
                 vec![
                     refused(few.call(&Call::Take(1, vec![0]))),
                     refused(full.call(&Call::Take(4, vec![]))),
@@ -751,7 +751,7 @@ fn the_numbers_of_the_header() {
             "KZ_NOTHING" => {
                 let (past, short) =
                     (ffi::receiver::clean(0, 8, 8, &mut [0; 8]), ffi::receiver::clean(0, 8, 0, &mut [0; 7]));
-                (defined(fronts, "cleanNumber (Some f) phases phase ws"), vec![past, short])
+                (defined(fronts, "clean_number (Some f) phases phase ws"), vec![past, short])
             }
             front if CLEAN.iter().any(|&(name, _)| name == front) => {
                 let number: u8 = value.parse().expect("a number");

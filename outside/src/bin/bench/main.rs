@@ -116,7 +116,7 @@ fn print_row(what: &str, numbers: Numbers, [library, checked, made]: [f64; 3]) {
 
 /// The library's sections as binutils' `size` tells them, or why there are none: code, and the constants beside it.
 fn library_size() -> String {
-    let library = concat!(env!("CARGO_MANIFEST_DIR"), "/../target/staticlib/libkamzhules.a");
+    let library = concat!(env!("CARGO_MANIFEST_DIR"), "/../crates/kamzhules/out/libkamzhules.a");
     let Ok(said) = Command::new("size").args(["-A", library]).output() else {
         return "`size` of binutils is not installed".to_string();
     };
