@@ -1,28 +1,19 @@
 #!/usr/bin/env bash
 # Applies each misuse/NAME.edit to a copy of the sources and compiles the program `rig` from it: the compiler must refuse
 # it with the error that the edit names. Nothing is proved here, so no crate need have been proved before.
-# The copy is also compiled as it is, and must be accepted then.
+# The copy is also compiled as it is, and must run then.
 set -euo pipefail
 
 top=$(cd "$(dirname "${BASH_SOURCE[0]}")/.." && pwd)
-kit=$(dirname "$(dirname "$(rt doc)")")
 copy=$(mktemp -d)
 trap 'rm -rf "$copy"' EXIT
-cp -r "$top/crates" "$copy/crates"
+cd "$top"
+git ls-files crates crates.txt | tar cf - -T - | tar xf - -C "$copy"
+git init -q "$copy"
 
-# Every library as its source: those of the kit, then those of the repository.
-libs=()
-while IFS=: read -r name uses; do
-    libs+=(--lib "$name:$(echo $uses | tr ' ' ,)=$kit/$name/src/lib.rt")
-done <"$kit/libs.txt"
-for root in "$copy"/crates/*/src/lib.rt; do
-    name=$(basename "$(dirname "$(dirname "$root")")")
-    libs+=(--lib "$name=$root")
-done
-
-# Compiles `rig` over the copy, and leaves what the compiler says in the file `said`.
+# Compiles `rig` over the copy and runs it, and leaves what is said in the file `said`.
 compiles() {
-    "$kit/bin/rattle-print-mir" "$copy/crates/rig/src/main.rt" --crate-name rig "${libs[@]}" >/dev/null 2>"$copy/said"
+    (cd "$copy/crates/rig" && rt try <stdin >"$copy/said" 2>&1)
 }
 
 # The text after `KEY: ` in an edit.

@@ -1,7 +1,7 @@
 #!/usr/bin/env bash
 # Runs the built programs on books that are refused: each must write the fault and nothing else, and end with status 1.
-# The gate runs programs only where they end with status 0, so these runs stand here. Needs target/bin, as `rt check` and
-# `rt ci` leave it.
+# The gate runs each program on one input, so these runs stand here. Needs crates/NAME/out/NAME, as `rt run` and `rt ci`
+# leave it.
 set -euo pipefail
 
 top=$(cd "$(dirname "${BASH_SOURCE[0]}")/.." && pwd)
@@ -14,7 +14,7 @@ failed=0
 refused() {
     printf 'line column number\n%s\n' "$3" >"$work/due"
     local status=0
-    "$top/target/bin/$1" <"$work/book" >"$work/came" 2>"$work/errors" || status=$?
+    "$top/crates/$1/out/$1" <"$work/book" >"$work/came" 2>"$work/errors" || status=$?
     if [ "$status" -eq 1 ] && [ ! -s "$work/errors" ] && cmp -s "$work/due" "$work/came"; then
         echo "refusal $1, $2: $3"
     else
