@@ -1,6 +1,6 @@
 #!/usr/bin/env bash
 # Tries the edits of edits/CRATE/ as the gate tries those of crates/CRATE/must-fail/: in a copy of the repository that has no
-# others. With names, only those crates'. It takes about a minute for each edit, so the gate leaves it out.
+# others. With names, only those crates'. It takes some minutes, so the gate leaves it out.
 set -euo pipefail
 
 cd "$(dirname "${BASH_SOURCE[0]}")/.."
