@@ -1,11 +1,12 @@
 -- The laws of the mapper: the turning number, what turns with it, and that different labels have different phases.
-use Rattle.std.proofs.Common.{◌≡◌, ℕ, ◌+◌, ◌%◌, ◌^◌, ◌<◌, Bool, true, cond, ◌&&◌, eqb, ltb, List, drop, sym, refl, ap, ◌∙◌, subst, one-mul, arith}
+use Rattle.std.proofs.Common.{◌≡◌, ℕ, zero, suc, ◌+◌, ◌%◌, ◌^◌, ◌<◌, Bool, true, cond, ◌&&◌, eqb, ltb, List, length, get_or, take, drop, sym, refl, ap, ◌∙◌, subst, one-mul, arith}
 use native.Mathlib.Nat.{add_right_comm, mod-mod, mod-add-mod}
+use Rattle.std.proofs.lemmas.List.{get_or-take, length-take-le}
 use Rattle.std.proofs.lemmas.Bool.{and_parts, eqb-true, lt-ltb, cond-true}
 use Rattle.trellis.specs.declared.Numbers.{Numbers}
 use Rattle.trellis.specs.declared.Row.{Row}
 use Rattle.trellis.specs.Label.{turns_by}
-use Rattle.trellis.specs.Mapper.{turning_number, picked, entry_at, patterns, phase_at, turned_label, Turns}
+use Rattle.trellis.specs.Mapper.{turning_number, picked, entry_at, patterns, phase_at, symbol_of, turned_label, Turns}
 use Rattle.trellis.specs.Rows.{signal_rows, label_rows}
 use Rattle.trellis.proofs.Gather.{count, gather-below, gather-put, silent, picked-put, rising, picked-rising}
 use Rattle.trellis.proofs.Sets.{Within, at_set, below, below_at, places_bound}
@@ -46,6 +47,21 @@ turning-below n w z = subst (λ (m : ℕ). turning_number n z < m) (turns_well_l
 
 pub phases_some : (n : Numbers) → Within n → 0 < n.phases
 phases_some n w = omega (arith, turning-below n w 0)
+
+-- one place of a symbol
+pub symbol_at : (n : Numbers) (z a : ℕ) → a < 4 → get_or (symbol_of n z) a 0 ≡ phase_at n z a
+symbol_at n z zero h = refl
+symbol_at n z (suc zero) h = refl
+symbol_at n z (suc (suc zero)) h = refl
+symbol_at n z (suc (suc (suc zero))) h = refl
+symbol_at n z (suc (suc (suc (suc a)))) h = absurd (omega arith)
+
+-- the used places of a symbol
+pub used_long : (n : Numbers) → Within n → (z : ℕ) → length (take n.places (symbol_of n z)) ≡ n.places
+used_long n w z = length-take-le n.places (symbol_of n z) (places_bound n w)
+
+pub used_at : (n : Numbers) → Within n → (z a : ℕ) → a < n.places → get_or (take n.places (symbol_of n z)) a 0 ≡ phase_at n z a
+used_at n w z a h = get_or-take n.places (symbol_of n z) a 0 h ∙ symbol_at n z a (omega (arith, places_bound n w))
 
 -- the phase at a used place
 pub phase_used : (n : Numbers) (z a : ℕ) → a < n.places → phase_at n z a ≡ (turning_number n z + patterns n z a) % n.phases

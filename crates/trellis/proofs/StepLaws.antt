@@ -3,6 +3,7 @@ use Rattle.std.proofs.Common.{◌≡◌, ℕ, ◌+◌, ◌-◌, ◌*◌, ◌%◌
 use native.Mathlib.Nat.{mod_self, mod-add-mod}
 use lib.Bits.{bit_xor, xor_lt}
 use lib.Pow.{pow-lt}
+use Rattle.std.proofs.lemmas.Simd.{map-map}
 use Rattle.std.proofs.lemmas.List.{length-map}
 use Rattle.std.proofs.lemmas.Bool.{cases_lt, cases_eq, cond-false, le-ltb}
 use Rattle.trellis.specs.declared.Numbers.{Numbers}
@@ -21,14 +22,6 @@ use Rattle.trellis.proofs.ParityEquation.{parity_bit, syndromes, path_parity, pa
 use Rattle.trellis.proofs.StateShift.{Bounded, leads_shifted}
 use Rattle.trellis.proofs.Turned.{Accepted, exponent_is, turned-below, turned-back, syndrome-turned, word_turned, bare_below, bare_syndrome, bare_turned, xor-back}
 use Rattle.trellis.proofs.Turnings.{change, tell}
-
-map-map : (f g : ℕ → ℕ) (xs : List ℕ) → map f (map g xs) ≡ map (λ x. f (g x)) xs
-map-map f g [] = refl
-map-map f g (x ∷ xs) = ap (λ (l : List ℕ). f (g x) ∷ l) (map-map f g xs)
-
-map_same : (f g : ℕ → ℕ) → ((x : ℕ) → f x ≡ g x) → (xs : List ℕ) → map f xs ≡ map g xs
-map_same f g e [] = refl
-map_same f g e (x ∷ xs) = λ i. e x i ∷ map_same f g e xs i
 
 module _ (n : Numbers) (a : Accepted n) where
   bounded : (zs : List ℕ) → Labels n zs → Bounded (2 ^ label_bits n) zs
@@ -115,10 +108,10 @@ module _ (n : Numbers) (a : Accepted n) where
       let ts = told.numbers in
       let zs : List ℕ = map (λ t. put (turns_by 1) (label_rows n) t 0) ts in
       let long : length zs ≡ v + 1 = length-map ts (λ t. put (turns_by 1) (label_rows n) t 0) ∙ told.long in
-      let plain : parity_bit v (syndromes hs zs) ≡ 0 = ap (parity_bit v) (map-map (syndrome hs) (λ t. put (turns_by 1) (label_rows n) t 0) ts ∙ map_same _ (syndrome ps) (bare_syndrome n a) ts) ∙ told.plain in
+      let plain : parity_bit v (syndromes hs zs) ≡ 0 = ap (parity_bit v) (map-map (syndrome hs) (λ t. put (turns_by 1) (label_rows n) t 0) ts ∙ (λ i. map (λ t. bare_syndrome n a t i) ts)) ∙ told.plain in
       let start = parity_path hs v zs long plain in
       let after : parity_bit v (syndromes hs (map (turned_label n r) zs)) ≡ 1 =
-      ap (parity_bit v) (map-map (syndrome hs) (turned_label n r) zs ∙ map-map (λ z. syndrome hs (turned_label n r z)) (λ t. put (turns_by 1) (label_rows n) t 0) ts ∙ map_same _ (λ t. syndrome ps (t + r)) (bare_turned n a r) ts) ∙ told.turned in
+      ap (parity_bit v) (map-map (syndrome hs) (turned_label n r) zs ∙ map-map (λ z. syndrome hs (turned_label n r z)) (λ t. put (turns_by 1) (label_rows n) t 0) ts ∙ (λ i. map (λ t. bare_turned n a r t i) ts)) ∙ told.turned in
       record {
         start = start.0;
         labels = zs;

@@ -2,6 +2,7 @@
 use Rattle.std.proofs.Common.{◌≡◌, ℕ, ◌-◌, ◌%◌, ◌<◌, ◌≤◌, Bool, true, false, cond, not, ◌&&◌, ◌||◌, eqb, leb, get_or, sym, refl, ap, ◌∙◌, ⊎_elim, zero-add, arith}
 use lib.Count.{ones}
 use Rattle.std.proofs.lemmas.Bool.{and_parts, or_cases, eqb-true, eq-eqb, ne_eqb, leb-true, cases_eq, cond-true, cond-false}
+use Rattle.std.proofs.Math.Bool.{and_assoc}
 use Rattle.trellis.specs.declared.Numbers.{Numbers}
 use Rattle.trellis.specs.Limits.{parity_turns}
 use Rattle.trellis.specs.Numbers.{phase_bits, word_bits, polynomials}
@@ -49,15 +50,6 @@ and_under : (a x y : Bool) → (a ≡ true → x ≡ y) → (a && x) ≡ (a && y
 and_under true x y h = h refl
 and_under false x y h = refl
 
-and_group : (a b c : Bool) → (a && (b && c)) ≡ ((a && b) && c)
-and_group true b c = refl
-and_group false b c = refl
-
-and_list : (a b c d : Bool) → ((a && (b && c)) && d) ≡ (a && (b && (c && d)))
-and_list true true c d = refl
-and_list true false c d = refl
-and_list false b c d = refl
-
 module _ (n : Numbers) (w : Within n) where
   lone : ((eqb (turning_bit n 0) 0 && eqb (checked_turns n n.checked (phase_bits n)) 1) ≡ lone_set n.places n.offset n.checked) × (cond (eqb (turning_bit n 0) 0) (leb 1 (checked_turns n n.checked (phase_bits n))) true ≡ true)
   lone =
@@ -90,6 +82,6 @@ module _ (n : Numbers) (w : Within n) where
   pub parity_sum : parity_turns n ≡ parity_by_sum n
   parity_sum =
       and_under (eqb (turning_bit n 0) 0) _ _ exponent_none
-      ∙ and_group (eqb (turning_bit n 0) 0) _ _
+      ∙ sym (and_assoc (eqb (turning_bit n 0) 0) _ _)
       ∙ ap (λ (b : Bool). b && eqb (ones n.h0 % 2) 0) lone.0
-      ∙ and_list (eqb n.places 2) (eqb n.offset 1) (eqb n.checked 1) _
+      ∙ and_assoc (eqb n.places 2) (eqb n.offset 1 && eqb n.checked 1) _ ∙ ap (λ (b : Bool). eqb n.places 2 && b) (and_assoc (eqb n.offset 1) (eqb n.checked 1) _)

@@ -4,7 +4,7 @@
 #![tactic(auto)]
 
 // A code as plain numbers, within its limits or not: the columns of a book. An absent polynomial is `None`.
-#[derive(Clone, Copy)]
+#[derive(Clone, Copy, Debug, PartialEq, Eq)]
 pub struct Numbers {
     pub places: u8,
     pub phases: u8,
@@ -19,7 +19,7 @@ pub struct Numbers {
 
 // One row of a signal set, which one label bit picks. A turning row turns every place by `turn` phases and has no
 // pattern. Any other row has `turn` 0, and `pattern` has its number at each place; unused places hold 0.
-#[derive(Clone, Copy)]
+#[derive(Clone, Copy, Debug, PartialEq, Eq)]
 pub struct Row {
     pub turn: u8,
     pub pattern: [u8; 4],
