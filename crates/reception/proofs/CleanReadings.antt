@@ -1,6 +1,6 @@
 -- Clean readings of the phases of a symbol's places, and of labels whose phases are turned by d.
 use Rattle.std.proofs.Common.{◌≡◌, ℕ, zero, suc, ◌+◌, ◌*◌, ◌%◌, ◌<◌, true, List, [], ◌∷◌, map, length, get_or, take, drop, sym, refl, ap, ◌∙◌, subst, ap₂, add-zero, mod-lt, mod-eq_of_lt, suc-mul, arith, length-append}
-use Rattle.std.proofs.lemmas.List.{length-take-le, length-map, get_or-map, get_or-take, take_at, drop_at}
+use Rattle.std.proofs.lemmas.List.{length-map, get_or-map, take_at, drop_at}
 use Rattle.std.proofs.lemmas.Bool.{and_from}
 use Rattle.reception.specs.Accepted.{IsCode}
 use Rattle.reception.specs.CleanBurst.{clean_readings}
@@ -10,7 +10,7 @@ use Rattle.reception.specs.Turnings.{IsClean, AllClean}
 use Rattle.reception.proofs.Codes.{accepted, some_phases, phase_below}
 use Rattle.trellis.specs.declared.Numbers.{Numbers}
 use Rattle.trellis.specs.Mapper.{phase_at, symbol_of}
-use Rattle.trellis.proofs.Sets.{places_bound}
+use Rattle.trellis.proofs.MapperLaws.{used_long, used_at}
 
 module _ (f : FrontMeaning) (M : ℕ) where
   one_long : (m : ℕ) → m < M → length (f.clean M m) ≡ f.width M
@@ -65,37 +65,23 @@ shifted_readings f n d [] = []
 shifted_readings f n d (z ∷ zs) =
     clean_reading f n.phases (map (λ p. (p + d) % n.phases) (take n.places (symbol_of n z))) ∷ shifted_readings f n d zs
 
--- a place of a symbol
-symbol_at : (n : Numbers) (z a : ℕ) → a < 4 → get_or (symbol_of n z) a 0 ≡ phase_at n z a
-symbol_at n z zero h = refl
-symbol_at n z (suc zero) h = refl
-symbol_at n z (suc (suc zero)) h = refl
-symbol_at n z (suc (suc (suc zero))) h = refl
-symbol_at n z (suc (suc (suc (suc a)))) h = absurd (omega arith)
-
 module _ (n : Numbers) (c : IsCode n) (f : FrontMeaning) where
   reads : (d z : ℕ) (ms : List ℕ) → length ms ≡ n.places → ((a : ℕ) → a < n.places → get_or ms a 0 ≡ (phase_at n z a + d) % n.phases) → Reads f n d z (clean_reading f n.phases ms)
   reads d z ms long at =
       let below : Phases n.phases ms = phases_from n.phases ms (λ a h. subst (λ (x : ℕ). x < n.phases) (sym (at a (omega arith))) (mod-lt (phase_at n z a + d) (some_phases n c))) in
       record { clean = record { phases = ms; long = long; below = below; reads = refl }; at = at }
 
-  symbol_long : (z : ℕ) → length (take n.places (symbol_of n z)) ≡ n.places
-  symbol_long z = length-take-le n.places (symbol_of n z) (places_bound n (accepted n c).sets)
-
-  symbol_phase : (z a : ℕ) → a < n.places → get_or (take n.places (symbol_of n z)) a 0 ≡ phase_at n z a
-  symbol_phase z a h = get_or-take n.places (symbol_of n z) a 0 h ∙ symbol_at n z a (omega (arith, places_bound n (accepted n c).sets))
-
   pub shifted_reads : (d : ℕ) (zs : List ℕ) → AllReads f n d zs (shifted_readings f n d zs)
   shifted_reads d [] = tt
   shifted_reads d (z ∷ zs) =
       let ms = take n.places (symbol_of n z) in
       let on : ℕ → ℕ = λ p. (p + d) % n.phases in
-      let long = symbol_long z in
-      (reads d z (map on ms) (length-map ms on ∙ long) (λ a h. get_or-map on ms a 0 0 (omega arith) ∙ ap on (symbol_phase z a h)), shifted_reads d zs)
+      let long = used_long n (accepted n c).sets z in
+      (reads d z (map on ms) (length-map ms on ∙ long) (λ a h. get_or-map on ms a 0 0 (omega arith) ∙ ap on (used_at n (accepted n c).sets z a h)), shifted_reads d zs)
 
   pub sent_reads : (zs : List ℕ) → AllReads f n 0 zs (clean_readings f n zs)
   sent_reads [] = tt
   sent_reads (z ∷ zs) = (
-    reads 0 z (take n.places (symbol_of n z)) (symbol_long z) (λ a h. symbol_phase z a h ∙ sym (ap (λ (x : ℕ). x % n.phases) (add-zero (phase_at n z a)) ∙ mod-eq_of_lt (phase_below n c z a h))),
+    reads 0 z (take n.places (symbol_of n z)) (used_long n (accepted n c).sets z) (λ a h. used_at n (accepted n c).sets z a h ∙ sym (ap (λ (x : ℕ). x % n.phases) (add-zero (phase_at n z a)) ∙ mod-eq_of_lt (phase_below n c z a h))),
     sent_reads zs,
   )

@@ -1,5 +1,6 @@
 -- Two lists of scores whose paths match one to one, with equal worths and words: then a receiver's answers over them agree.
-use Rattle.std.proofs.Common.{◌≡◌, ℕ, ◌-◌, Bool, true, false, ◌⊎◌, List, length, sym, refl, ap, ◌∙◌, subst, subst₂, inl, inr, arith}
+use Rattle.std.proofs.Common.{◌≡◌, ℕ, ◌-◌, Bool, ◌⊎◌, List, length, sym, refl, ap, ◌∙◌, subst, subst₂, inl, inr, arith}
+use Rattle.std.specs.Cmp.{both_ways}
 use Rattle.reception.specs.Answer.{Answer, refused, opened, taken, told, delivered, Told, Delivered, NoPath}
 use Rattle.reception.specs.Least.{PathOver, LeastPath, Sole, Marks}
 use Rattle.reception.specs.Turnings.{Agree}
@@ -26,11 +27,6 @@ sole_through n ss rs x back forth back_path forth_back back_worth sole S T zs ys
     let one = sole (back S zs).0 (back T ys).0 (back S zs).1 (back T ys).1 (back_path S zs p) (back_path T ys q) (back_worth S zs p ∙ px) (back_worth T ys q ∙ qx) in
     let same : (S, zs) ≡ (T, ys) = sym (forth_back S zs p) ∙ (λ i. forth (one.0 i) (one.1 i)) ∙ forth_back T ys q in
     (ap (λ (w : ℕ × List ℕ). w.0) same, ap (λ (w : ℕ × List ℕ). w.1) same)
-
-same_mark : (p q : Bool) → (p ≡ true → q ≡ true) → (q ≡ true → p ≡ true) → p ≡ q
-same_mark true q there here = sym (there refl)
-same_mark false true there here = here refl
-same_mark false false there here = refl
 
 -- An answer agrees with itself.
 pub agree_self : (a : Answer) → Agree a a
@@ -63,7 +59,7 @@ module _ (n : Numbers) (ss rs : List Scores) (m : Matching n ss rs) where
   -- and are sole together.
   same-marks : (x y : ℕ) (p q : Bool) → x ≡ y → Marks n ss x p → Marks n rs y q → p ≡ q
   same-marks x y p q e a b =
-      same_mark p q
+      both_ways p q
       (λ set. b.sole_set (subst (Sole n rs) e (sole_through n ss rs x m.back m.forth m.back_path m.forth_back m.back_worth (a.set_sole set))))
       (λ set. a.sole_set (subst (Sole n ss) (sym e) (sole_through n rs ss y m.forth m.back m.forth_path m.back_forth m.forth_worth (b.set_sole set))))
 

@@ -1,6 +1,6 @@
 -- What a survivor says of all the paths that end in its state.
 use Rattle.std.proofs.Common.{◌≡◌, ℕ, zero, suc, ◌+◌, ◌^◌, ◌<◌, ◌≤◌, true, List, [], ◌∷◌, ◌++◌, reverse, length, get_or, take, sym, ap, ◌∙◌, subst, subst₂, inl, inr, ⊎_elim, arith, take-suc}
-use mathlib.Core.List.{reverse_aux-append}
+use Rattle.std.proofs.lemmas.List.{reverse-append}
 use Rattle.std.proofs.lemmas.List.{length-take-le, nil_from_length, same_from_push}
 use Rattle.std.proofs.lemmas.Bool.{cases_lt}
 use Rattle.reception.specs.Accepted.{IsCode}
@@ -22,9 +22,6 @@ pub record Survives (n : Numbers) (ss : List Scores) (row : ℕ → ℕ → Surv
   pub first : (S : ℕ) (zs : List ℕ) → Ends n t S E zs → path_worth n ss zs ≡ (row t E).worth → NoLater (reverse (trace n row t E)) (reverse zs)
   pub set_sole : (row t E).sole ≡ true → (S : ℕ) (zs : List ℕ) → Ends n t S E zs → path_worth n ss zs ≡ (row t E).worth → zs ≡ trace n row t E
   pub sole_set : ((S : ℕ) (zs : List ℕ) → Ends n t S E zs → path_worth n ss zs ≡ (row t E).worth → zs ≡ trace n row t E) → (row t E).sole ≡ true
-
-reverse_push : (zs : List ℕ) (z : ℕ) → reverse (zs ++ (z ∷ [])) ≡ z ∷ reverse zs
-reverse_push zs z = reverse_aux-append zs (z ∷ []) []
 
 module _ (n : Numbers) (code : IsCode n) (ss : List Scores) (s : Scores) (row : ℕ → ℕ → Survivor) (t : ℕ) (long : length ss ≡ t) (way : (E : ℕ) → E < 2 ^ n.memory → Ends n t (trace_start n row t E) E (trace n row t E)) (each : (E : ℕ) → E < 2 ^ n.memory → Survives n ss row t E) (E : ℕ) (best : Best (Enters n E) (through n s (row t) E) (AloneBefore n (row t) E) (row (suc t) E)) where
   -- the worth of a path with label z last
@@ -88,7 +85,7 @@ module _ (n : Numbers) (code : IsCode n) (ss : List Scores) (s : Scores) (row : 
             let low = best.lowest last q.off.enters q.label in
             let order : NoLater (z ∷ reverse (trace n row t B)) (last ∷ reverse q.off.front) =
             ⊎_elim inl (λ (l : last ≤ z). let e : last ≡ z = omega arith in let there = front_there S zs q e in inr (sym e, at.first S q.off.front there.0 there.1)) (cases_lt z last) in
-            subst₂ NoLater (sym (reverse_push (trace n row t B) z)) (sym (ap reverse q.off.is ∙ reverse_push q.off.front last)) order;
+            subst₂ NoLater (sym (reverse-append (trace n row t B) (z ∷ []))) (sym (ap reverse q.off.is ∙ reverse-append q.off.front (last ∷ []))) order;
         set_sole = λ e S zs p w.
             let q = is_tight S zs p w in
             let alone = best.set_sole e in
