@@ -1,96 +1,68 @@
--- The judgment as one number.
-use Rattle.std.proofs.Common.{◌≡◌, ℕ, ◌≤◌, Bool, true, false, cond, eqb, ltb, leb, ◌⊎◌, Ok, Err, Result, sym, refl, ap, ◌∙◌, inl, inr, ⊎_elim, arith}
-use Rattle.std.proofs.lemmas.Bool.{cases_eq, cond-true, cond-false, eq-eqb, ne_eqb, le-leb, lt-leb}
+-- The steps of the judgment, and what numbers keep that are judged to be a code.
+use Rattle.std.proofs.Common.{◌≡◌, ℕ, Bool, true, false, cond, eqb, Ok, Err, Result, sym, ap, ◌∙◌, refl}
+use Rattle.std.specs.Result.{result_err}
+use Rattle.std.proofs.lemmas.Bool.{cond-true, eq-eqb, eqb-true}
 use Rattle.code.specs.declared.flaw.Flaw.{Flaw}
-use Rattle.code.specs.declared.flaw.Flaw.TheVariants.{Limit, Polynomial}
-use Rattle.code.specs.Flaw.{judged, first_fault, flaw_at}
+use Rattle.code.specs.declared.flaw.Flaw.TheVariants.{Limit, Polynomial, Parity}
+use Rattle.code.specs.Flaw.{judged, found, flaw_in, passed}
 use Rattle.trellis.specs.declared.Numbers.{Numbers}
-use Rattle.trellis.specs.Numbers.{word_bits}
+use Rattle.trellis.specs.Limits.{limit_fault, polynomial_fault, parity_turns}
 use Rattle.trellis.specs.Sums.{parity_by_sum}
-use Rattle.trellis.proofs.Sets.{within as limits-hold}
+use Rattle.trellis.proofs.Sets.{within}
 use Rattle.trellis.proofs.Turns.{parity_sum}
-use Rattle.trellis.specs.Limits.{unless, is_places, is_phases, is_checked, is_memory, is_first, is_later, is_due, limit_fault, polynomial_fault, parity_turns}
 
-limit_leaves : (a b c d e : Bool) → unless a 1 (unless b 2 (unless c 3 (unless d 4 (unless e 5 0)))) ≤ 5
-limit_leaves false b c d e = omega arith
-limit_leaves true false c d e = omega arith
-limit_leaves true true false d e = omega arith
-limit_leaves true true true false e = omega arith
-limit_leaves true true true true false = omega arith
-limit_leaves true true true true true = omega arith
+abbrev pub step-taken : Result Unit Flaw
+step-taken = Ok tt
 
-limit_few : (n : Numbers) → limit_fault n ≤ 5
-limit_few n = limit_leaves (is_places n.places) (is_phases n.phases) (ltb n.offset n.places) (is_checked (word_bits n) n.checked) (is_memory n.memory)
+abbrev pub step-refused : Flaw → Result Unit Flaw
+step-refused f = Err f
 
-polynomial_leaves : (a b c d : Bool) (x : ℕ) → x ≡ unless a 6 (unless b 7 (unless c 8 (unless d 9 0))) → (x ≡ 0 → ⊥) → (6 ≤ x) × (x ≤ 9)
-polynomial_leaves false b c d x e some = (omega arith, omega arith)
-polynomial_leaves true false c d x e some = (omega arith, omega arith)
-polynomial_leaves true true false d x e some = (omega arith, omega arith)
-polynomial_leaves true true true false x e some = (omega arith, omega arith)
-polynomial_leaves true true true true x e some = absurd (some e)
-
-polynomial_range : (n : Numbers) → (polynomial_fault n ≡ 0 → ⊥) → (6 ≤ polynomial_fault n) × (polynomial_fault n ≤ 9)
-polynomial_range n some = polynomial_leaves (is_first n.memory n.h0) (is_later n.memory n.h1) (is_due (leb 2 n.checked) n.memory n.h2) (is_due (leb 3 n.checked) n.memory n.h3) (polynomial_fault n) refl some
-
-abbrev taken : Numbers → Result Numbers Flaw
+abbrev pub taken : Numbers → Result Numbers Flaw
 taken n = Ok n
 
-abbrev refused : Flaw → Result Numbers Flaw
+abbrev pub refused : Flaw → Result Numbers Flaw
 refused f = Err f
 
--- the three ways to refuse
-abbrev Told : Numbers → Type 0
-Told n = ((first_fault n ≡ 0) × (limit_fault n ≡ 0) × (polynomial_fault n ≡ 0) × (parity_turns n ≡ false)) ⊎ ((first_fault n ≡ 0 → ⊥) × (judged n ≡ refused (flaw_at (first_fault n))))
+none_by : (b : Bool) (g : Flaw) → step-taken ≡ cond b step-taken (step-refused g) → b ≡ true
+none_by true g e = cc
+none_by false g e = cc
 
-limit_flaw : (k : ℕ) → k ≤ 5 → flaw_at k ≡ Limit k
-limit_flaw k h = cond-true (leb k 5) _ _ (le-leb k 5 h)
+-- a step that is passed, and one that is not
+pub passed_none : (flaw : ℕ → Flaw) (k : ℕ) → step-taken ≡ passed flaw k → k ≡ 0
+passed_none flaw k e = eqb-true k 0 (none_by (eqb k 0) (flaw k) e)
 
-polynomial_flaw : (k : ℕ) → 6 ≤ k → k ≤ 9 → flaw_at k ≡ Polynomial k
-polynomial_flaw k low high = cond-false (leb k 5) _ _ (lt-leb k 5 (omega arith)) ∙ cond-true (leb k 9) _ _ (le-leb k 9 high)
+passed_some : (b : Bool) (g f : Flaw) (rest : Result Numbers Flaw) → step-refused f ≡ cond b step-taken (step-refused g) → step-refused f ≡ found (cond b rest (refused g))
+passed_some true g f rest e = cc
+passed_some false g f rest e = e
+
+-- the three steps of a judgment that finds nothing
+passed_all : (a b t : Bool) (f g : Flaw) (n : Numbers) → step-taken ≡ found (cond a (cond b (cond t (refused Parity) (taken n)) (refused g)) (refused f)) → (a ≡ true) × (b ≡ true) × (t ≡ false)
+passed_all true true false f g n e = (refl, refl, refl)
+passed_all true true true f g n e = cc
+passed_all true false t f g n e = cc
+passed_all false b t f g n e = cc
 
 module _ (n : Numbers) where
-  by_parity : limit_fault n ≡ 0 → polynomial_fault n ≡ 0 → (p : Bool) → parity_turns n ≡ p → Told n
-  by_parity l h true e =
-      let first : first_fault n ≡ 10 = cond-true (eqb (limit_fault n) 0) _ _ (eq-eqb _ _ l) ∙ cond-true (eqb (polynomial_fault n) 0) _ _ (eq-eqb _ _ h) ∙ cond-true (parity_turns n) _ _ e in
-      inr ((λ z. omega arith), cond-true (eqb (limit_fault n) 0) _ _ (eq-eqb _ _ l) ∙ cond-true (eqb (polynomial_fault n) 0) _ _ (eq-eqb _ _ h) ∙ cond-true (parity_turns n) _ _ e ∙ ap (λ (k : ℕ). refused (flaw_at k)) (sym first))
-  by_parity l h false e =
-      inl (cond-true (eqb (limit_fault n) 0) _ _ (eq-eqb _ _ l) ∙ cond-true (eqb (polynomial_fault n) 0) _ _ (eq-eqb _ _ h) ∙ cond-false (parity_turns n) _ _ e, l, h, e)
+  pub accepted : step-taken ≡ found (judged n) → (limit_fault n ≡ 0) × (polynomial_fault n ≡ 0) × (parity_turns n ≡ false)
+  accepted e =
+      let all = passed_all (eqb (limit_fault n) 0) (eqb (polynomial_fault n) 0) (parity_turns n) (Limit (limit_fault n)) (Polynomial (polynomial_fault n)) n e in
+      (eqb-true _ _ all.0, eqb-true _ _ all.1, all.2)
 
-  by_polynomial : limit_fault n ≡ 0 → (polynomial_fault n ≡ 0 → ⊥) → Told n
-  by_polynomial l h =
-      let first : first_fault n ≡ polynomial_fault n = cond-true (eqb (limit_fault n) 0) _ _ (eq-eqb _ _ l) ∙ cond-false (eqb (polynomial_fault n) 0) _ _ (ne_eqb _ _ h) in
-      let range = polynomial_range n h in
-      inr ((λ z. h (sym first ∙ z)), cond-true (eqb (limit_fault n) 0) _ _ (eq-eqb _ _ l) ∙ cond-false (eqb (polynomial_fault n) 0) _ _ (ne_eqb _ _ h) ∙ sym (ap refused (ap flaw_at first ∙ polynomial_flaw (polynomial_fault n) range.0 range.1)))
+  module _ (limits : limit_fault n ≡ 0) where
+    pub by_polynomials : (f : Flaw) → step-refused f ≡ passed Polynomial (polynomial_fault n) → step-refused f ≡ found (judged n)
+    by_polynomials f e =
+        passed_some (eqb (polynomial_fault n) 0) (Polynomial (polynomial_fault n)) f (cond (parity_turns n) (refused Parity) (taken n)) e
+        ∙ sym (ap found (cond-true (eqb (limit_fault n) 0) _ _ (eq-eqb _ _ limits)))
 
-  by_limit : (limit_fault n ≡ 0 → ⊥) → Told n
-  by_limit l =
-      let first : first_fault n ≡ limit_fault n = cond-false (eqb (limit_fault n) 0) _ _ (ne_eqb _ _ l) in
-      inr ((λ z. l (sym first ∙ z)), cond-false (eqb (limit_fault n) 0) _ _ (ne_eqb _ _ l) ∙ sym (ap refused (ap flaw_at first ∙ limit_flaw (limit_fault n) (limit_few n))))
+    pub by_parity : polynomial_fault n ≡ 0 → (t : Bool) → t ≡ parity_by_sum n → found (cond t (refused Parity) (taken n)) ≡ found (judged n)
+    by_parity polynomials t t-is =
+        ap (λ (b : Bool). found (cond b (refused Parity) (taken n))) (t-is ∙ sym (parity_sum n (within n limits)))
+        ∙ sym (ap found (cond-true (eqb (limit_fault n) 0) _ _ (eq-eqb _ _ limits) ∙ cond-true (eqb (polynomial_fault n) 0) _ _ (eq-eqb _ _ polynomials)))
 
-  told : Told n
-  told = ⊎_elim (λ l. ⊎_elim (λ h. by_parity l h (parity_turns n) refl) (λ h. by_polynomial l h) (cases_eq (polynomial_fault n) 0)) (λ l. by_limit l) (cases_eq (limit_fault n) 0)
+pub found-err : (r : Result Numbers Flaw) → result_err (found r) ≡ flaw_in r
+found-err (Ok n) = refl
+found-err (Err f) = refl
 
-  pub judged-none : first_fault n ≡ 0 → (limit_fault n ≡ 0) × (polynomial_fault n ≡ 0) × (parity_turns n ≡ false)
-  judged-none z = ⊎_elim (λ t. (t.1, t.2, t.3)) (λ t. absurd (t.0 z)) told
-
-  pub judged-taken : first_fault n ≡ 0 → judged n ≡ taken n
-  judged-taken z =
-      let none = judged-none z in
-      cond-true (eqb (limit_fault n) 0) _ _ (eq-eqb _ _ none.0) ∙ cond-true (eqb (polynomial_fault n) 0) _ _ (eq-eqb _ _ none.1) ∙ cond-false (parity_turns n) _ _ none.2
-
-  pub judged-refused : (first_fault n ≡ 0 → ⊥) → judged n ≡ refused (flaw_at (first_fault n))
-  judged-refused some = ⊎_elim (λ t. absurd (some t.0)) (λ t. t.1) told
-
-  -- where the judgment ends
-  pub first_limit : (k : ℕ) → k ≡ limit_fault n → (k ≡ 0 → ⊥) → k ≡ first_fault n
-  first_limit k e some = e ∙ sym (cond-false (eqb (limit_fault n) 0) _ _ (ne_eqb _ _ (λ z. some (e ∙ z))))
-
-  module _ (within : limit_fault n ≡ 0) where
-    pub first-polynomial : (k : ℕ) → k ≡ polynomial_fault n → (k ≡ 0 → ⊥) → k ≡ first_fault n
-    first-polynomial k e some =
-        e ∙ sym (cond-true (eqb (limit_fault n) 0) _ _ (eq-eqb _ _ within) ∙ cond-false (eqb (polynomial_fault n) 0) _ _ (ne_eqb _ _ (λ z. some (e ∙ z))))
-
-    pub first-parity : polynomial_fault n ≡ 0 → (t : Bool) → t ≡ parity_by_sum n → cond t 10 0 ≡ first_fault n
-    first-parity h t e =
-        ap (λ (b : Bool). cond b 10 0) (e ∙ sym (parity_sum n (limits-hold n within)))
-        ∙ sym (cond-true (eqb (limit_fault n) 0) _ _ (eq-eqb _ _ within) ∙ cond-true (eqb (polynomial_fault n) 0) _ _ (eq-eqb _ _ h))
+pub found_refused : (r : Result Numbers Flaw) (f : Flaw) → step-refused f ≡ found r → refused f ≡ r
+found_refused (Ok n) f e = cc
+found_refused (Err g) f e = cc

@@ -1,3 +1,4 @@
+mod Degrees
 mod Judged
 mod Joined
 mod Loops

@@ -1,6 +1,6 @@
 -- The two loops on the differential bits: what is made so far and what is left make the whole.
-use Rattle.std.proofs.Common.{◌≡◌, ℕ, ◌+◌, ◌*◌, ◌/◌, ◌%◌, ◌^◌, ◌<◌, ◌≤◌, Bool, true, false, List, length, get_or, drop, sym, ap, ◌∙◌, add-zero, add_assoc, mul_assoc, mul_comm, mul-zero, mul-add, add-one, arith}
-use Rattle.std.proofs.lemmas.List.{at_drop_more, at_drop_all}
+use Rattle.std.proofs.Common.{◌≡◌, ℕ, ◌+◌, ◌*◌, ◌/◌, ◌%◌, ◌^◌, ◌<◌, ◌≤◌, Bool, true, false, List, length, get_or, drop, sym, ap, ◌∙◌, add_assoc, mul_assoc, mul_comm, mul-add, add-one, arith}
+use Rattle.std.proofs.lemmas.List.{at_drop_more}
 use Rattle.trellis.specs.declared.Row.{Row}
 use Rattle.trellis.specs.Label.{gather, put}
 use Rattle.trellis.proofs.Gather.{double, bit_below, mul-below, gather_marked, gather_other, put_marked, put_other}
@@ -63,11 +63,3 @@ module _ (marked : Row → Bool) (rows : List Row) (i : ℕ) (d : Row) (within :
         omega arith,
         omega arith,
       )
-
-pub gathered_all : (marked : Row → Bool) (rows : List Row) (i rest weight number label : ℕ) → length rows ≤ i → Gathered marked rows i rest weight number label → number ≡ gather marked rows label
-gathered_all marked rows i rest weight number label past h =
-    sym (add-zero number) ∙ ap (λ (k : ℕ). number + k) (sym (mul-zero weight) ∙ ap (λ (k : ℕ). weight * k) (sym (at_drop_all (λ rs. gather marked rs rest) rows i past))) ∙ h.0
-
-pub replaced_all : (marked : Row → Bool) (rows : List Row) (i digits rest weight made number label : ℕ) → length rows ≤ i → Replaced marked rows i digits rest weight made number label → made ≡ put marked rows number label
-replaced_all marked rows i digits rest weight made number label past h =
-    sym (add-zero made) ∙ ap (λ (k : ℕ). made + k) (sym (mul-zero weight) ∙ ap (λ (k : ℕ). weight * k) (sym (at_drop_all (λ rs. put marked rs digits rest) rows i past))) ∙ h.0

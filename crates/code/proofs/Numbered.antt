@@ -44,9 +44,6 @@ module _ (k : Code) where
 
   -- the difference of two differential numbers, and the word that holds it
   module _ (s : ℕ) (s-is : s ≡ step k.numbers) (y z V W : ℕ) (V-is : V ≡ differential k.numbers y) (W-is : W ≡ differential k.numbers z) where
-    pub modulus-most : k.numbers.phases / s ≤ 16
-    modulus-most = let is = modulus_is s s-is in let few = modulus_few in omega arith
-
     pub before-below : V < k.numbers.phases / s
     before-below = let is = modulus_is s s-is in let below = number_below y in omega arith
 

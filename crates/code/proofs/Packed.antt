@@ -112,15 +112,15 @@ module _ (n : Numbers) (w : Within n) where
   pattern_small z a h = picked-small (λ r. lane (8 * a) (packed r)) (entry_at a) (label_rows n) z (lanes a h).0
 
   -- the joined rows: the turning number t and the patterns p
-  module _ (z t p : ℕ) (t-is : t ≡ picked (λ r. r.turn) (label_rows n) z) (p-is : p ≡ picked packed (label_rows n) z) (fits : p < 2 ^ 32) where
+  module _ (rows : List Row) (rows_are : rows ≡ label_rows n) (z t p : ℕ) (t-is : t ≡ picked (λ r. r.turn) rows z) (p-is : p ≡ picked packed rows z) (fits : p < 2 ^ 32) where
     number : t ≡ turning_number n z
-    number = t-is ∙ turn-picked n w z
+    number = t-is ∙ ap (λ (rs : List Row). picked (λ r. r.turn) rs z) rows_are ∙ turn-picked n w z
 
     pub turn_small : t < 16
     turn_small = let few = phases_few n.phases w.phases in let below = turning-below n w z in let is = number in omega arith
 
     at : (a : ℕ) → a < 4 → lane (8 * a) p ≡ patterns n z a
-    at a h = ap (lane (8 * a)) p-is ∙ lane_pattern z a h
+    at a h = ap (lane (8 * a)) (p-is ∙ ap (λ (rs : List Row). picked packed rs z) rows_are) ∙ lane_pattern z a h
 
     small : (a : ℕ) → a < 4 → lane (8 * a) p < 16
     small a h = subst (λ (x : ℕ). x < 16) (sym (at a h)) (pattern_small z a h)

@@ -1,5 +1,5 @@
 -- The loops over the turning bits.
-use Rattle.std.proofs.Common.{◌≡◌, ℕ, zero, suc, ◌+◌, ◌-◌, ◌*◌, ◌/◌, ◌%◌, ◌^◌, ◌<◌, ◌≤◌, Bool, leb, length, sym, refl, ap, ◌∙◌, add_assoc, add-one, arith}
+use Rattle.std.proofs.Common.{◌≡◌, ℕ, zero, suc, ◌+◌, ◌-◌, ◌*◌, ◌/◌, ◌%◌, ◌^◌, ◌<◌, ◌≤◌, Bool, true, false, cond, eqb, leb, length, sym, refl, ap, ◌∙◌, add_assoc, add-one, arith}
 use native.Mathlib.Nat.{pow-le-pow_right}
 use Rattle.std.proofs.lemmas.Nat.{shl_whole}
 use Rattle.std.proofs.lemmas.Bool.{leb-true}
@@ -18,13 +18,19 @@ use Rattle.trellis.proofs.Sets.{within, at_set}
 abbrev rows_test : ℕ → ℕ → ℕ → Bool
 rows_test l m q = leb (length (set_rows l m q)) 16
 
-pub read_small : (l i q j k z : ℕ) → k ≤ 4 → read_at (turning_bits l i q j k) z < 16
+read_small : (l i q j k z : ℕ) → k ≤ 4 → read_at (turning_bits l i q j k) z < 16
 read_small l i q j zero z h = omega arith
 read_small l i q j (suc zero) z h = omega arith
 read_small l i q j (suc (suc zero)) z h = omega arith
 read_small l i q j (suc (suc (suc zero))) z h = omega arith
 read_small l i q j (suc (suc (suc (suc zero)))) z h = omega arith
 read_small l i q j (suc (suc (suc (suc (suc k))))) z h = absurd (omega arith)
+
+bits_few : (n : Numbers) → phase_bits n ≤ 4
+bits_few n = elim (eqb n.phases 4) as (λ b. cond b 2 (cond (eqb n.phases 8) 3 4) ≤ 4) [
+  | true ↦ omega arith
+  | false ↦ elim (eqb n.phases 8) as (λ b. cond b 3 4 ≤ 4) [ true ↦ omega arith | false ↦ omega arith ]
+]
 
 module _ (n : Numbers) where
   -- read from level j on, and made from level j on
@@ -34,9 +40,12 @@ module _ (n : Numbers) where
   abbrev pub write_from : ℕ → ℕ → ℕ
   write_from j t = write_at (turning_bits n.places (phase_bits n) n.offset j (phase_bits n - j)) t
 
-  pub read_none : (j z : ℕ) → j ≡ phase_bits n → 0 ≡ read_from j z
-  read_none j z e =
-      let none : 0 ≡ phase_bits n - j = omega arith in ap (λ (k : ℕ). read_at (turning_bits n.places (phase_bits n) n.offset j k) z) none
+  -- the number that is read is small
+  pub read_few : (j number z : ℕ) → number ≡ read_from j z → number < 16
+  read_few j number z is =
+      let bits = bits_few n in
+      let few = read_small n.places (phase_bits n) n.offset j (phase_bits n - j) z (omega arith) in
+      omega arith
 
   pub read_down : (j t number z : ℕ) → 0 < j → j ≤ phase_bits n → t ≡ turning_bit n (j - 1) → number ≡ read_from j z → z / 2 ^ t % 2 + 2 * number ≡ read_from (j - 1) z
   read_down j t number z some most at is =

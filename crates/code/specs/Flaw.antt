@@ -1,5 +1,5 @@
 -- How numbers are judged, and the refusal numbers.
-use Rattle.std.specs.Prelude.{ℕ, cond, Some, None, Ok, Err, Option, Result, ◌==◌, nat_le}
+use Rattle.std.specs.Prelude.{ℕ, cond, Some, None, Ok, Err, Option, Result, ◌==◌}
 use Rattle.code.specs.declared.flaw.Flaw.{Flaw}
 use Rattle.code.specs.declared.flaw.Flaw.TheVariants.{Limit, Polynomial, Parity}
 use Rattle.code.specs.declared.record.Code.{Code}
@@ -24,12 +24,14 @@ judged n =
     (cond (polynomial_fault n == 0) (cond (parity_turns n) (Err Parity) (Ok n)) (Err (Polynomial (polynomial_fault n))))
     (Err (Limit (limit_fault n)))
 
--- The same as one number: the column of the first fault, 10 where the parity bit is at fault, 0 for none.
-abbrev pub first_fault : Numbers → ℕ
-first_fault n = cond (limit_fault n == 0) (cond (polynomial_fault n == 0) (cond (parity_turns n) 10 0) (polynomial_fault n)) (limit_fault n)
+-- One step of that judgment: the flaw of the column at fault, where the column is not 0.
+abbrev pub passed : (ℕ → Flaw) → ℕ → Result Unit Flaw
+passed flaw column = cond (column == 0) (Ok tt) (Err (flaw column))
 
-abbrev pub flaw_at : ℕ → Flaw
-flaw_at k = cond (nat_le k 5) (Limit k) (cond (nat_le k 9) (Polynomial k) Parity)
+-- The judgment without the numbers.
+abbrev pub found : Result Numbers Flaw → Result Unit Flaw
+found (Ok n) = Ok tt
+found (Err f) = Err f
 
 -- The flaw of numbers that are no code.
 abbrev pub flaw_in : Result Numbers Flaw → Option Flaw

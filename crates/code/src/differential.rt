@@ -47,18 +47,10 @@ fn difference(modulus: u8, before: u8, number: u8) -> u8
 }
 
 // The lowest bit of the number.
-fn lowest(number: u8) -> u16
+fn lowest(number: u16) -> u32
     ensures { result ≡ number % 2 }
 {
-    (number % 2) as u16
-}
-
-// The weight, if the bit is 1.
-fn weighed(weight: u32, bit: u16) -> u32
-    requires { bit < 2 }
-    ensures { result ≡ weight * bit }
-{
-    if bit == 1 { weight } else { 0 }
+    (number % 2) as u32
 }
 
 // The number that the label bits form whose rows turn by `least` or more.
@@ -71,7 +63,7 @@ fn gathered(rows: &[Row], least: u8, label: u16) -> u32
     let mut number = 0u32;
     for row in rows {
         if least <= row.turn {
-            number += weighed(weight, rest % 2);
+            number += weight * lowest(rest);
             weight *= 2;
         }
         rest /= 2;
@@ -90,10 +82,10 @@ fn replaced(rows: &[Row], least: u8, number: u8, label: u16) -> u32
     let mut made = 0u32;
     for row in rows {
         if least <= row.turn {
-            made += weighed(weight, lowest(digits));
+            made += weight * lowest(digits as u16);
             digits /= 2;
         } else {
-            made += weighed(weight, rest % 2);
+            made += weight * lowest(rest);
         }
         weight *= 2;
         rest /= 2;

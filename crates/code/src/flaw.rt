@@ -2,7 +2,7 @@
 ghost use Rattle.std.specs.Prelude.{◌≡◌};
 ghost use Rattle.code.specs.Flaw.{flaw_number, flaw_column};
 
-#[derive(Clone, Copy)]
+#[derive(Clone, Copy, Debug, PartialEq, Eq, PartialOrd, Ord)]
 pub enum Flaw {
     // l, m, q, c or v is outside its limits: its column, 1 to 5.
     Limit(u8),
@@ -29,8 +29,7 @@ impl Flaw {
         ensures { result ≡ flaw_column self }
     {
         match self {
-            Flaw::Limit(column) => column,
-            Flaw::Polynomial(column) => column,
+            Flaw::Limit(column) | Flaw::Polynomial(column) => column,
             Flaw::Parity => 0,
         }
     }

@@ -8,6 +8,7 @@ mod limits;
 mod make;
 mod mapper;
 mod parity;
+mod polynomials;
 mod record;
 mod rows;
 mod step;

@@ -1,9 +1,10 @@
 // Numbers are judged: they become a code, or are refused.
 ghost use Rattle.std.specs.Prelude.{◌≡◌};
-ghost use Rattle.code.specs.Flaw.{judged, numbers_of, flaw_at, flaw_in};
+ghost use Rattle.code.specs.Flaw.{judged, found, numbers_of, flaw_in};
 
 use crate::flaw::Flaw;
-use crate::limits::first_fault;
+use crate::limits::judge_limits;
+use crate::polynomials::{judge_polynomials, parity_turns};
 use crate::record::Code;
 use trellis::Numbers;
 
@@ -13,12 +14,8 @@ impl Code {
     pub fn new(numbers: Numbers) -> Result<Code, Flaw>
         ensures { numbers_of result ≡ judged numbers }
     {
-        let fault = first_fault(numbers);
-        if fault == 0 {
-            Ok(Code { numbers })
-        } else {
-            Err(flaw_at(fault))
-        }
+        judge(numbers)?;
+        Ok(Code { numbers })
     }
 }
 
@@ -27,23 +24,17 @@ impl Flaw {
     pub fn of(numbers: Numbers) -> Option<Flaw>
         ensures { result ≡ flaw_in (judged numbers) }
     {
-        let fault = first_fault(numbers);
-        if fault == 0 {
-            None
-        } else {
-            Some(flaw_at(fault))
-        }
+        judge(numbers).err()
     }
 }
 
-fn flaw_at(fault: u8) -> Flaw
-    ensures { result ≡ flaw_at fault }
+fn judge(numbers: Numbers) -> Result<(), Flaw>
+    ensures { result ≡ found (judged numbers) }
 {
-    if fault <= 5 {
-        Flaw::Limit(fault)
-    } else if fault <= 9 {
-        Flaw::Polynomial(fault)
-    } else {
-        Flaw::Parity
+    judge_limits(numbers)?;
+    judge_polynomials(numbers)?;
+    if parity_turns(numbers) {
+        return Err(Flaw::Parity);
     }
+    Ok(())
 }

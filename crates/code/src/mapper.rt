@@ -1,13 +1,12 @@
 // The mapper: from a label to the phases of its places.
-ghost use Rattle.std.specs.Prelude.{◌≡◌, ◌+◌, ◌*◌, ◌%◌, ◌<◌, ◌≤◌, true, if◌then◌else◌, Some, None, nat_lt, slice_index};
+ghost use Rattle.std.specs.Prelude.{◌≡◌, ◌%◌, ◌≤◌, [], ◌∷◌, slice_get, take};
 ghost use Rattle.code.specs.Packed.{packed, used_bits};
 ghost use Rattle.code.specs.Units.{phase_number, phase_within};
-ghost use Rattle.trellis.specs.Limits.{is_phases};
 ghost use Rattle.trellis.specs.Mapper.{picked, symbol_of, Distinct, Turns};
 
 use crate::record::Code;
 use crate::units::{Label, Phase};
-use trellis::{Numbers, Row};
+use trellis::Row;
 
 // 1 at each of four places.
 const EACH: u32 = 16843009;
@@ -20,64 +19,60 @@ impl Code {
         ensures distinct { Distinct self.numbers }
         ensures turns { Turns self.numbers }
     {
+        // The loop would do for one place too, and misses the bar of speed (see turning.rt).
         if self.numbers.places == 1 {
-            return [modulo(label.0, self.numbers.phases), 0, 0, 0];
+            return alone(self.modulo(label.0));
         }
         let (turn, patterns) = joined(self.rows(), label.0);
         let all = turn * EACH + patterns;
-        (all & used_bits(self.numbers)).to_le_bytes()
+        (all & self.used_bits()).to_le_bytes()
     }
 
     // The phase of one place, or nothing past the last.
     pub fn phase(self, label: Label, place: usize) -> Option<Phase>
         ensures { phase_number result ≡ phase_within self.numbers label.0 place }
     {
-        used_place(self.symbol(label), self.numbers.places, place)
+        phase_of(self.symbol(label), self.numbers.places, place)
+    }
+
+    // The remainder by the number of phases, a power of two. With `%` a word of one place takes 36 ns to send in place of
+    // 26, which misses the bar of speed.
+    pub(crate) fn modulo(self, number: u16) -> u8
+        ensures { result ≡ number % self.numbers.phases }
+    {
+        (number & (self.numbers.phases as u16 - 1)) as u8
+    }
+
+    // The bits of a phase at each used place.
+    fn used_bits(self) -> u32
+        ensures { result ≡ used_bits self.numbers.places self.numbers.phases }
+    {
+        let bits = self.numbers.phases as u32 - 1;
+        match self.numbers.places {
+            1 => bits,
+            2 => bits * 257,
+            _ => bits * EACH,
+        }
     }
 }
 
 // The phase at a place of the symbol, if it is one of the first `places`.
-fn used_place(symbol: [u8; 4], places: u8, place: usize) -> Option<Phase>
+fn phase_of(symbol: [u8; 4], places: u8, place: usize) -> Option<Phase>
     requires { places ≤ 4 }
-    ensures { phase_number result ≡ (if nat_lt place places then Some (slice_index symbol place) else None) }
+    ensures { phase_number result ≡ slice_get (take places symbol) place }
 {
-    if place < places as usize {
-        Some(Phase(symbol[place]))
-    } else {
-        None
-    }
+    symbol[..places as usize].get(place).copied().map(Phase)
 }
 
-// The remainder by the number of phases.
-pub(crate) fn modulo(number: u16, phases: u8) -> u8
-    requires { is_phases phases ≡ true }
-    ensures { result ≡ number % phases }
+// The symbol of one used place.
+fn alone(phase: u8) -> [u8; 4]
+    ensures { result ≡ phase ∷ 0 ∷ 0 ∷ 0 ∷ [] }
 {
-    (number & (phases as u16 - 1)) as u8
-}
-
-// The bits of a phase at each used place.
-fn used_bits(numbers: Numbers) -> u32
-    requires { is_phases numbers.phases ≡ true }
-    ensures { result ≡ used_bits numbers.places numbers.phases }
-{
-    let bits = numbers.phases as u32 - 1;
-    match numbers.places {
-        1 => bits,
-        2 => bits * 257,
-        _ => bits * EACH,
-    }
-}
-
-// The entry, if the label bit picks its row.
-fn picked_entry(bit: u32, entry: u32) -> u32
-    requires { bit < 2 }
-    ensures { result ≡ bit * entry }
-{
-    bit * entry
+    [phase, 0, 0, 0]
 }
 
 // The rows that the label picks, joined by exclusive or: the turns, and the patterns of all places in one number.
+#[tactic(auto, using(crate::proofs::Joined::picks))]
 fn joined(rows: &[Row], label: u16) -> (u32, u32)
     ensures turn { result.0 ≡ picked (λ x. x.turn) rows.now label }
     ensures patterns { result.1 ≡ picked packed rows.now label }
@@ -87,8 +82,8 @@ fn joined(rows: &[Row], label: u16) -> (u32, u32)
     let mut patterns = 0;
     for row in rows {
         let bit = (rest % 2) as u32;
-        turn ^= picked_entry(bit, row.turn as u32);
-        patterns ^= picked_entry(bit, u32::from_le_bytes(row.pattern));
+        turn ^= bit * row.turn as u32;
+        patterns ^= bit * u32::from_le_bytes(row.pattern);
         rest /= 2;
     }
     (turn, patterns)

@@ -4,7 +4,7 @@ ghost use Rattle.trellis.specs.Limits.{limit_fault, polynomial_fault, parity_tur
 
 use trellis::Numbers;
 
-#[derive(Clone, Copy)]
+#[derive(Clone, Copy, Debug, PartialEq, Eq)]
 pub struct Code {
     pub numbers: Numbers,
     ghost limits: { limit_fault numbers ≡ 0 },

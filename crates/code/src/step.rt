@@ -2,7 +2,6 @@
 ghost use Rattle.std.specs.Prelude.{◌≡◌, ◌<◌, ◌≤◌, slice_index};
 ghost use Rattle.trellis.specs.Numbers.{phase_bits, polynomials};
 ghost use Rattle.reception.specs.Turnings.{Turnings};
-ghost use Rattle.trellis.specs.Limits.{limit_fault};
 ghost use Rattle.trellis.specs.Sums.{turns_by_sum};
 ghost use Rattle.trellis.specs.Transparency.{Transparency};
 ghost use Rattle.trellis.specs.Step.{turning_bit, checked_turns, step_exponent, step};
@@ -29,7 +28,42 @@ impl Code {
         ensures value { result ≡ step_exponent self.numbers }
         ensures high { result ≤ 4 }
     {
-        exponent_by(self.numbers, checked_turns(self.numbers))
+        let Some(highest) = self.checked_turns().checked_sub(1) else {
+            return 0;
+        };
+        let checking = self.polynomial(self.turning_bit(highest));
+        highest + (checking.count_ones() % 2) as u8
+    }
+
+    // The label bit of the j-th turning row.
+    pub(crate) fn turning_bit(self, j: u8) -> u8
+        requires { j < 4 }
+        ensures { result ≡ turning_bit self.numbers j }
+    {
+        let bits = phase_bits(self.numbers);
+        let row = match self.numbers.places {
+            1 => j,
+            2 => 2 * j + 1,
+            _ if j + 1 == bits => 4 * bits - 1,
+            _ => 4 * j + 4,
+        };
+        row.saturating_sub(self.numbers.offset)
+    }
+
+    // The polynomial that checks label bit i.
+    fn polynomial(self, i: u8) -> u16
+        ensures { result ≡ slice_index (polynomials self.numbers) i }
+    {
+        self.polynomials().get(i as usize).copied().unwrap_or(0)
+    }
+
+    // One more than the greatest j whose turning bit is checked, or 0.
+    fn checked_turns(self) -> u8
+        ensures value { result ≡ checked_turns self.numbers self.numbers.checked (phase_bits self.numbers) }
+        ensures high { result ≤ 4 }
+    {
+        let n = self.numbers;
+        turns_by_sum(n.places, phase_bits(n), n.offset, n.checked)
     }
 }
 
@@ -46,39 +80,6 @@ pub(crate) fn phase_bits(numbers: Numbers) -> u8
     }
 }
 
-// The label bit of the j-th turning row.
-pub(crate) fn turning_bit(numbers: Numbers, j: u8) -> u8
-    requires { j < 4 }
-    ensures { result ≡ turning_bit numbers j }
-{
-    let bits = phase_bits(numbers);
-    let row = match numbers.places {
-        1 => j,
-        2 => 2 * j + 1,
-        _ => {
-            if j + 1 == bits {
-                4 * bits - 1
-            } else {
-                4 * j + 4
-            }
-        }
-    };
-    row.saturating_sub(numbers.offset)
-}
-
-// The polynomial that checks label bit i.
-fn polynomial(numbers: Numbers, i: u8) -> u16
-    ensures { result ≡ slice_index (polynomials numbers) i }
-{
-    match i {
-        0 => numbers.h0,
-        1 => numbers.h1,
-        2 => numbers.h2.unwrap_or(0),
-        3 => numbers.h3.unwrap_or(0),
-        _ => 0,
-    }
-}
-
 // The count of checked turning bits.
 fn turns_by_sum(places: u8, bits: u8, offset: u8, checked: u8) -> u8
     requires bits { bits ≤ 4 }
@@ -92,33 +93,4 @@ fn turns_by_sum(places: u8, bits: u8, offset: u8, checked: u8) -> u8
         2 => ((checked + offset + 1) / 2).min(bits),
         _ => (checked + offset) / 4,
     }
-}
-
-// One more than the greatest j whose turning bit is checked, or 0.
-fn checked_turns(numbers: Numbers) -> u8
-    requires { limit_fault numbers ≡ 0 }
-    ensures value { result ≡ checked_turns numbers numbers.checked (phase_bits numbers) }
-    ensures high { result ≤ 4 }
-{
-    turns_by_sum(
-        numbers.places,
-        phase_bits(numbers),
-        numbers.offset,
-        numbers.checked,
-    )
-}
-
-// The exponent of the step, from the count of checked turning bits.
-fn exponent_by(numbers: Numbers, turns: u8) -> u8
-    requires turns { turns ≡ checked_turns numbers numbers.checked (phase_bits numbers) }
-    requires few { turns ≤ 4 }
-    ensures value { result ≡ step_exponent numbers }
-    ensures high { result ≤ 4 }
-{
-    if turns == 0 {
-        return 0;
-    }
-    let highest = turns - 1;
-    let ones = polynomial(numbers, turning_bit(numbers, highest)).count_ones();
-    highest + (ones % 2) as u8
 }

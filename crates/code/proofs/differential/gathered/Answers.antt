@@ -1,6 +1,7 @@
+use Rattle.std.proofs.Common.{ℕ, ◌*◌, ap}
 use Rattle.std.proofs.lemmas.Bool.{le-leb, lt-leb}
 use Rattle.trellis.specs.Label.{turns_by}
-use Rattle.code.proofs.Loops.{gathered_marked, gathered_other, gathered_all}
+use Rattle.code.proofs.Loops.{gathered_marked, gathered_other}
 use Rattle.code.proofs.differential.gathered.Goals as goal
 use Rattle.code.proofs.differential.gathered.Goals.{then-least-row, else-least-row}
 
@@ -9,11 +10,8 @@ loop-row-preserved c =
     elim c.if-least-row.branch [
       | then-least-row w ↦
           simp (w.number-is, w.weight-is) (gathered_marked (turns_by c.args.least) c.args.rows.now c.loop-row.row-index _ c.loop-row-test.true
-          _ _ _ _ _ (le-leb _ _ w.if-least-row.true) w.weighed-number.ensures c.loop-row.invariant)
+          _ _ _ _ _ (le-leb _ _ w.if-least-row.true) (ap (λ (b : ℕ). c.loop-row.weight * b) w.lowest.ensures) c.loop-row.invariant)
       | else-least-row w ↦
           simp (w.number-is, w.weight-is) (gathered_other (turns_by c.args.least) c.args.rows.now c.loop-row.row-index _ c.loop-row-test.true
           _ _ _ _ (lt-leb _ _ w.if-least-row.false) c.loop-row.invariant)
     ]
-
-pub returns : goal.returns
-returns c = gathered_all (turns_by c.args.least) c.args.rows.now _ _ _ _ _ c.loop-row-test.false c.loop-row.invariant

@@ -1,7 +1,7 @@
-use Rattle.std.proofs.Common.{ℕ, ◌*◌, ap, ◌∙◌}
+use Rattle.std.proofs.Common.{ℕ, ◌*◌, ap}
 use Rattle.std.proofs.lemmas.Bool.{le-leb, lt-leb}
 use Rattle.trellis.specs.Label.{turns_by}
-use Rattle.code.proofs.Loops.{replaced_marked, replaced_other, replaced_all}
+use Rattle.code.proofs.Loops.{replaced_marked, replaced_other}
 use Rattle.code.proofs.differential.replaced.Goals as goal
 use Rattle.code.proofs.differential.replaced.Goals.{then-least-row, else-least-row}
 
@@ -10,11 +10,8 @@ loop-row-preserved c =
     elim c.if-least-row.branch [
       | then-least-row w ↦
           simp (w.digits-is, w.made-is) (replaced_marked (turns_by c.args.least) c.args.rows.now c.loop-row.row-index _ c.loop-row-test.true
-          _ _ _ _ _ _ _ (le-leb _ _ w.if-least-row.true) (w.weighed-made.ensures ∙ ap (λ (b : ℕ). c.loop-row.weight * b) w.lowest.ensures) c.loop-row.invariant)
+          _ _ _ _ _ _ _ (le-leb _ _ w.if-least-row.true) (ap (λ (b : ℕ). c.loop-row.weight * b) w.lowest.ensures) c.loop-row.invariant)
       | else-least-row w ↦
           simp (w.digits-is, w.made-is) (replaced_other (turns_by c.args.least) c.args.rows.now c.loop-row.row-index _ c.loop-row-test.true
-          _ _ _ _ _ _ _ (lt-leb _ _ w.if-least-row.false) w.weighed-made-else-least-row.ensures c.loop-row.invariant)
+          _ _ _ _ _ _ _ (lt-leb _ _ w.if-least-row.false) (ap (λ (b : ℕ). c.loop-row.weight * b) w.lowest-else-least-row.ensures) c.loop-row.invariant)
     ]
-
-pub returns : goal.returns
-returns c = replaced_all (turns_by c.args.least) c.args.rows.now _ _ _ _ _ _ _ c.loop-row-test.false c.loop-row.invariant

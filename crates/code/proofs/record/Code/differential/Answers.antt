@@ -8,6 +8,3 @@ overflow_cast-result c =
     let below = number_below c.args.self c.args.label.0 in
     let few = modulus_few c.args.self in
     record { fits = omega arith }
-
-pub returns : goal.returns
-returns c = number_is c.args.self _ c.step.ensures.value _ c.rows.ensures.value _ _ c.gathered.ensures

@@ -1,8 +1,5 @@
-use Rattle.std.proofs.Common.{ℕ, ◌+◌, ◌*◌, ◌^◌, ◌<◌, List, [], ◌∷◌, sym, ap, ◌∙◌, arith}
+use Rattle.std.proofs.Common.{ℕ, ◌+◌, ◌*◌, [], ◌∷◌, sym, ap, ◌∙◌, arith}
 use lib.Bits.{bit_and}
-use Rattle.code.specs.Packed.{packed}
-use Rattle.trellis.specs.declared.Row.{Row}
-use Rattle.trellis.specs.Mapper.{picked}
 use Rattle.trellis.proofs.Distinct.{distinct}
 use Rattle.trellis.proofs.MapperLaws.{turns}
 use Rattle.trellis.proofs.Positions.{one_symbol}
@@ -15,7 +12,7 @@ returns-then-self-eq1 c =
     let n = c.args.self.numbers in
     let w = within n c.args.self.limits in
     record {
-      value = ap (λ (x : ℕ). x ∷ 0 ∷ 0 ∷ 0 ∷ []) c.modulo.ensures ∙ sym (one_symbol n w c.if-self-eq1.true c.args.label.0);
+      value = c.alone.ensures ∙ ap (λ (x : ℕ). x ∷ 0 ∷ 0 ∷ 0 ∷ []) c.modulo.ensures ∙ sym (one_symbol n w c.if-self-eq1.true c.args.label.0);
       distinct = distinct n w;
       turns = turns n w;
     }
@@ -23,33 +20,19 @@ returns-then-self-eq1 c =
 pub overflow_add-all : goal.overflow_add-all
 overflow_add-all c =
     let n = c.args.self.numbers in
-    let z = c.args.label.0 in
-    let fits : c.joined-turn.result.1 < 2 ^ 32 = omega arith in
-    let all = sum_fits n (within n c.args.self.limits) z c.joined-turn.result.0 c.joined-turn.result.1
-    (c.joined-turn.ensures.turn ∙ ap (λ (rs : List Row). picked (λ r. r.turn) rs z) c.rows.ensures.value)
-    (c.joined-turn.ensures.patterns ∙ ap (λ (rs : List Row). picked packed rs z) c.rows.ensures.value) fits in
-    record { fits = omega arith }
+    let fits = sum_fits n (within n c.args.self.limits) _ c.rows.ensures.value c.args.label.0 _ _ c.joined-turn.ensures.turn c.joined-turn.ensures.patterns (omega arith) in record { fits = omega arith }
 
 pub overflow_mul-all : goal.overflow_mul-all
 overflow_mul-all c =
     let n = c.args.self.numbers in
-    let z = c.args.label.0 in
-    let fits : c.joined-turn.result.1 < 2 ^ 32 = omega arith in
-    let all = sum_fits n (within n c.args.self.limits) z c.joined-turn.result.0 c.joined-turn.result.1
-    (c.joined-turn.ensures.turn ∙ ap (λ (rs : List Row). picked (λ r. r.turn) rs z) c.rows.ensures.value)
-    (c.joined-turn.ensures.patterns ∙ ap (λ (rs : List Row). picked packed rs z) c.rows.ensures.value) fits in
-    record { fits = omega arith }
+    let fits = sum_fits n (within n c.args.self.limits) _ c.rows.ensures.value c.args.label.0 _ _ c.joined-turn.ensures.turn c.joined-turn.ensures.patterns (omega arith) in record { fits = omega arith }
 
 pub returns : goal.returns
 returns c =
     let n = c.args.self.numbers in
     let w = within n c.args.self.limits in
-    let z = c.args.label.0 in
     let t = c.joined-turn.result.0 in
     let p = c.joined-turn.result.1 in
-    let fits : p < 2 ^ 32 = omega arith in
-    let is = phases-are n w z t p
-    (c.joined-turn.ensures.turn ∙ ap (λ (rs : List Row). picked (λ r. r.turn) rs z) c.rows.ensures.value)
-    (c.joined-turn.ensures.patterns ∙ ap (λ (rs : List Row). picked packed rs z) c.rows.ensures.value) fits
+    let is = phases-are n w _ c.rows.ensures.value c.args.label.0 t p c.joined-turn.ensures.turn c.joined-turn.ensures.patterns (omega arith)
     (bit_and (t * 16843009 + p) c.used_bits.result) (ap (bit_and (t * 16843009 + p)) c.used_bits.ensures) in
     record { value = c.to_le_bytes.ensures ∙ is; distinct = distinct n w; turns = turns n w }
