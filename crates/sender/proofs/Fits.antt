@@ -1,5 +1,5 @@
 -- What the encoder's numbers are, and that they fit.
-use Rattle.std.proofs.Common.{◌≡◌, ℕ, suc, ◌+◌, ◌-◌, ◌*◌, ◌/◌, ◌%◌, ◌^◌, ◌<◌, ◌≤◌, Bool, true, List, [], ◌∷◌, length, drop, sym, refl, ap, ◌∙◌, subst, ⊎_elim, mod-lt, zero-add, zero-mul, arith, pow_pos}
+use Rattle.std.proofs.Common.{◌≡◌, ℕ, suc, ◌+◌, ◌-◌, ◌*◌, ◌/◌, ◌%◌, ◌^◌, ◌<◌, ◌≤◌, Bool, true, List, [], ◌∷◌, drop, sym, refl, ap, ◌∙◌, subst, ⊎_elim, zero-add, zero-mul, arith, pow_pos}
 use native.Mathlib.Nat.{pow-le-pow_right, zero-mod, mul-mod_left}
 use lib.Bits.{bit_and, bit_xor, and_mask, xor_lt}
 use Rattle.std.proofs.lemmas.Nat.{shl-shr, shl_whole, shr_le}
@@ -9,13 +9,13 @@ use Rattle.trellis.specs.declared.Numbers.{Numbers}
 use Rattle.trellis.specs.declared.Row.{Row}
 use Rattle.trellis.specs.Label.{gather, put, turns_by}
 use Rattle.trellis.specs.Mapper.{turning_number}
-use Rattle.trellis.specs.Numbers.{word_bits, polynomials}
+use Rattle.trellis.specs.Numbers.{label_bits, word_bits, polynomials}
 use Rattle.trellis.specs.Parity.{syndrome}
 use Rattle.trellis.specs.Precoder.{differential, placed, with_parity}
 use Rattle.trellis.specs.Rows.{label_rows}
 use Rattle.trellis.specs.Step.{step, step_exponent, differential_bits}
 use Rattle.trellis.proofs.BurstLaws.{Sends, sends}
-use Rattle.trellis.proofs.Gather.{double, bit_below, gather_marked, gather_other, put_other}
+use Rattle.trellis.proofs.Gather.{double, gather_marked, gather_other, put_other}
 use Rattle.trellis.proofs.Levels.{gather_from, put_from}
 use Rattle.trellis.proofs.MapperLaws.{turns_well_lem, turning-below}
 use Rattle.trellis.proofs.OneLabel.{head_free}
@@ -48,16 +48,6 @@ module _ (k : Code) where
   phases_most =
       ⊎_elim (λ (h : k.numbers.phases ≡ 4). omega arith) (λ h. ⊎_elim (λ (h : k.numbers.phases ≡ 8). omega arith) (λ (h : k.numbers.phases ≡ 16). omega arith) h) (one_of k.numbers.phases 4 8 16 ok.phases)
 
-  pub words_few : 2 ^ word_bits k.numbers ≤ 2 ^ 15
-  words_few = let few = (accepted k).most in power_up (word_bits k.numbers) 15 (omega arith)
-
-  -- a word at its place fits the rows
-  placed_fits : (w : ℕ) → w < 2 ^ word_bits k.numbers → placed w < 2 ^ length (label_rows k.numbers)
-  placed_fits w h =
-      let least = (accepted k).least in
-      let more : suc (word_bits k.numbers) ≡ length (label_rows k.numbers) = omega (arith, (accepted k).long) in
-      subst (λ (j : ℕ). 2 * w < 2 ^ j) more (let twice = double (word_bits k.numbers) in omega arith)
-
   module _ (e : ℕ) (e-is : e ≡ step_exponent k.numbers) where
     -- the number of a label at the differential places
     pub number_is : (t z : ℕ) → t ≡ turning_number k.numbers z → t / 2 ^ e ≡ differential k.numbers z
@@ -82,13 +72,6 @@ module _ (k : Code) where
     pub risen-is : (x : ℕ) → bit_and x (k.numbers.phases / 2 ^ e - 1) ≡ x % 2 ^ differential_bits k.numbers
     risen-is x = ap (λ (m : ℕ). bit_and x (m - 1)) modulus_is ∙ and_mask x (differential_bits k.numbers)
 
-    pub risen-small : (x : ℕ) → bit_and x (k.numbers.phases / 2 ^ e - 1) < 16
-    risen-small x =
-        let is = risen-is x in
-        let less = mod-lt x (pow_pos (differential_bits k.numbers)) in
-        let few = (accepted k).small in
-        omega arith
-
     -- the bits that are turned over
     pub shifted : e ≤ 4 → (x : ℕ) → x < 16 → (x * 2 ^ e) % 256 ≡ x * 2 ^ e
     shifted few x h = shl_whole x 4 e 8 h (omega arith)
@@ -99,17 +82,23 @@ module _ (k : Code) where
         put_from 0 e (label_rows k.numbers) (x * 2 ^ e) 0 (turns_well_lem k.numbers ok).rises low
         ∙ (λ i. put (turns_by (2 ^ (zero-add e ∙ e-is) i)) (label_rows k.numbers) (shl-shr x e i) 0)
 
-    module _ (few : e ≤ 4) (g V w : ℕ) (g-is : g ≡ differential k.numbers (placed w)) (g-small : g < 16) (V-small : V < 16) (fits : w < 2 ^ word_bits k.numbers) where
-      pub even_is : (x : ℕ) → x ≡ put (turns_by 1) (label_rows k.numbers) ((bit_xor g V * 2 ^ e) % 256) 0 → bit_xor (2 * w) x ≡ put (turns_by (step k.numbers)) (label_rows k.numbers) V (placed w)
-      even_is x is =
-          ap (bit_xor (2 * w)) (is ∙ ap (λ (y : ℕ). put (turns_by 1) (label_rows k.numbers) y 0) (shifted few (bit_xor g V) (xor_lt 4 g V g-small V-small)) ∙ flip_is (bit_xor g V))
-          ∙ ap (λ (y : ℕ). bit_xor (2 * w) (put (turns_by (step k.numbers)) (label_rows k.numbers) (bit_xor y V) 0)) g-is
-          ∙ sym (put-xor (turns_by (step k.numbers)) (label_rows k.numbers) V (placed w) (placed_fits w fits))
+    module _ (few : e ≤ 4) (g V z : ℕ) (g-is : g ≡ differential k.numbers z) (g-small : g < 16) (V-small : V < 16) (fits : z < 2 ^ label_bits k.numbers) where
+      pub replaced_is : (x : ℕ) → x ≡ put (turns_by 1) (label_rows k.numbers) ((bit_xor g V * 2 ^ e) % 256) 0 → bit_xor z x ≡ put (turns_by (step k.numbers)) (label_rows k.numbers) V z
+      replaced_is x is =
+          ap (bit_xor z) (is ∙ ap (λ (y : ℕ). put (turns_by 1) (label_rows k.numbers) y 0) (shifted few (bit_xor g V) (xor_lt 4 g V g-small V-small)) ∙ flip_is (bit_xor g V))
+          ∙ ap (λ (y : ℕ). bit_xor z (put (turns_by (step k.numbers)) (label_rows k.numbers) (bit_xor y V) 0)) g-is
+          ∙ sym (put-xor (turns_by (step k.numbers)) (label_rows k.numbers) V z (subst (λ (j : ℕ). z < 2 ^ j) (sym (accepted k).long) fits))
 
-      pub even-even : (x : ℕ) → x ≡ put (turns_by 1) (label_rows k.numbers) ((bit_xor g V * 2 ^ e) % 256) 0 → bit_xor (2 * w) x % 2 ≡ 0
-      even-even x is =
-          ap (λ (y : ℕ). y % 2) (even_is x is)
-          ∙ put_even (turns_by (step k.numbers)) (label_rows k.numbers) V (placed w) (accepted k).free (omega arith)
+  -- a word at its place is a label, and it stays even where its number is replaced
+  pub placed_fits : (w : ℕ) → w < 2 ^ word_bits k.numbers → placed w < 2 ^ label_bits k.numbers
+  placed_fits w h =
+      let least = (accepted k).least in
+      let more : suc (word_bits k.numbers) ≡ label_bits k.numbers = omega (arith, (accepted k).long) in
+      subst (λ (j : ℕ). 2 * w < 2 ^ j) more (let twice = double (word_bits k.numbers) in omega arith)
+
+  pub even-placed : (V w x : ℕ) → x ≡ put (turns_by (step k.numbers)) (label_rows k.numbers) V (placed w) → x % 2 ≡ 0
+  even-placed V w x is =
+      ap (λ (y : ℕ). y % 2) is ∙ put_even (turns_by (step k.numbers)) (label_rows k.numbers) V (placed w) (accepted k).free (omega arith)
 
 -- the parity bit, from the syndrome y of the other bits
 module _ (n : Numbers) (S x y z : ℕ) (even : x % 2 ≡ 0) (y-is : y ≡ syndrome (drop 1 (polynomials n)) (x / 2)) (z-is : z ≡ x + bit_xor S y % 2) where
@@ -117,13 +106,3 @@ module _ (n : Numbers) (S x y z : ℕ) (even : x % 2 ≡ 0) (y-is : y ≡ syndro
   label_is =
       let none : x % 2 * n.h0 ≡ 0 = ap (λ (b : ℕ). b * n.h0) even ∙ zero-mul n.h0 in
       z-is ∙ ap (λ (v : ℕ). x + bit_xor S v % 2) (y-is ∙ sym (ap (λ (v : ℕ). bit_xor v (syndrome (drop 1 (polynomials n)) (x / 2))) none))
-
-  pub sum_is : y ≡ syndrome (drop 1 (polynomials n)) (z / 2)
-  sum_is =
-      let bit = bit_below (bit_xor S y) in
-      let half : x / 2 ≡ z / 2 = omega arith in
-      y-is ∙ ap (syndrome (drop 1 (polynomials n))) half
-
--- the syndrome, by the parity bit and the others
-pub whole_is : (n : Numbers) (b y z : ℕ) → b ≡ z % 2 * n.h0 → y ≡ syndrome (drop 1 (polynomials n)) (z / 2) → bit_xor b y ≡ syndrome (polynomials n) z
-whole_is n b y z b-is y-is = λ i. bit_xor (b-is i) (y-is i)

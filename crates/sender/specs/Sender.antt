@@ -17,12 +17,12 @@ pub record Standing : Type 0 where
   pub V : ℕ
   pub sent : ℕ
 
-abbrev pub standing : Sending → Standing
-standing b = record { numbers = b.code.numbers; S = b.state.0; V = b.differential; sent = b.sent }
-
 -- Where a burst stood that was set down.
 abbrev pub set_down : Snapshot → Standing
 set_down b = record { numbers = b.code.numbers; S = b.state.0; V = b.differential; sent = b.sent }
+
+abbrev pub standing : Sending → Standing
+standing b = set_down b.snapshot
 
 -- A burst begins in state 0 with differential number 0.
 abbrev pub begun : Numbers → Standing

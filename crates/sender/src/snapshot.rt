@@ -8,19 +8,8 @@ impl Sending {
     pub fn set_down(self) -> Snapshot
         ensures { set_down result ≡ standing self }
     {
-        let Sending {
-            code,
-            state,
-            differential,
-            sent,
-        } = self;
-        let words = sent;
-        Snapshot {
-            code,
-            state,
-            differential,
-            sent: words,
-        }
+        let Sending { snapshot } = self;
+        snapshot
     }
 }
 
@@ -28,11 +17,6 @@ impl Snapshot {
     pub fn take_up(self) -> Sending
         ensures { standing result ≡ set_down self }
     {
-        Sending {
-            code: self.code,
-            state: self.state,
-            differential: self.differential,
-            sent: self.sent,
-        }
+        Sending { snapshot: self }
     }
 }

@@ -6,16 +6,14 @@ pub struct Quiet {
     pub(crate) sealed: (),
 }
 
-// A sender within a burst: its code, the trellis state, the differential number and how many words are sent.
+// A sender within a burst.
 pub struct Sending {
-    pub(crate) code: Code,
-    pub(crate) state: State,
-    pub(crate) differential: u8,
-    pub(crate) sent: u8,
+    pub(crate) snapshot: Snapshot,
 }
 
-// A burst set down as plain numbers, as a caller in another language has to keep it.
-#[derive(Clone, Copy)]
+// Where a burst stands: its code, the trellis state, the differential number and how many words are sent. A caller in
+// another language has to keep these plain numbers.
+#[derive(Clone, Copy, Debug, PartialEq, Eq)]
 pub struct Snapshot {
     pub code: Code,
     pub state: State,

@@ -4,9 +4,9 @@ ghost use Rattle.sender.specs.Sender.{standing, begun, answer, after};
 ghost use Rattle.trellis.specs.Burst.{BurstLaw};
 ghost use Rattle.trellis.specs.Mapper.{symbol_of};
 
-use crate::encoder::{even_label, half_syndrome, next_state, number_of, risen, with_parity, words};
+use crate::encoder::{Precoder, next_state, with_parity, words};
 use crate::refusal::SendRefusal;
-use crate::states::{Quiet, Sending};
+use crate::states::{Quiet, Sending, Snapshot};
 use code::{Code, Label, State, Word};
 
 impl Quiet {
@@ -37,22 +37,27 @@ impl Sending {
         ensures answer { result ≡ answer (standing self.old) word.0 }
         ensures after { standing self.new ≡ after (standing self.old) word.0 }
     {
-        if self.sent >= 255 {
+        let Snapshot {
+            code,
+            state,
+            differential,
+            sent,
+        } = self.snapshot;
+        if sent == u8::MAX {
             return Err(SendRefusal::Full);
         }
-        let code = self.code;
         if word.0 >= words(code) {
             return Err(SendRefusal::TooWide);
         }
-        let exponent = code.exponent();
-        let number = number_of(code, exponent, word);
-        let risen = risen(code, exponent, number, self.differential);
-        let even = even_label(code, exponent, number, risen, word);
-        let sum = half_syndrome(code.numbers, even / 2);
-        let label = with_parity(even, self.state, sum);
-        self.state = next_state(code, self.state, label, sum);
-        self.differential = risen;
-        self.sent += 1;
+        let (risen, even) = Precoder::new(code).precoded(differential, word);
+        let sum = code.half_syndrome(even / 2);
+        let label = with_parity(even, state, sum);
+        self.snapshot = Snapshot {
+            code,
+            state: next_state(code, state, label, sum),
+            differential: risen,
+            sent: sent + 1,
+        };
         Ok(code.symbol(label))
     }
 
@@ -60,20 +65,15 @@ impl Sending {
     pub fn places(&self) -> u8
         ensures { result ≡ (standing self.now).numbers.places }
     {
-        self.code.numbers.places
+        self.snapshot.code.numbers.places
     }
 
     // Closes the burst, and tells how many words were sent.
     pub fn end(self) -> (Quiet, usize)
         ensures { result.1 ≡ (standing self).sent }
     {
-        let Sending {
-            code: _,
-            state: _,
-            differential: _,
-            sent,
-        } = self;
-        (Quiet { sealed: () }, sent as usize)
+        let Sending { snapshot } = self;
+        (Quiet { sealed: () }, snapshot.sent as usize)
     }
 }
 
@@ -82,9 +82,11 @@ fn opened(code: Code) -> Sending
     ensures { standing result ≡ begun code.numbers }
 {
     Sending {
-        code,
-        state: State(0),
-        differential: 0,
-        sent: 0,
+        snapshot: Snapshot {
+            code,
+            state: State(0),
+            differential: 0,
+            sent: 0,
+        },
     }
 }
