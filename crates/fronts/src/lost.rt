@@ -8,7 +8,7 @@ use crate::front::Front;
 use crate::score::Score;
 use code::Phase;
 
-#[derive(Clone, Copy)]
+#[derive(Clone, Copy, Debug, Default, PartialEq, Eq)]
 pub struct Lost<F>(pub F);
 
 impl<F: Front> Front for Lost<F> {
@@ -36,39 +36,21 @@ impl<F: Front> Front for Lost<F> {
     }
 
     fn turned(&self, phases: u8, reading: &mut [u16]) {
-        if let Some((&0, _)) = reading.split_first() {
-            turn_below(&self.0, phases, reading);
+        if let Some((mark, below)) = reading.split_first_mut() {
+            if *mark == 0 {
+                self.0.turned(phases, below);
+            }
         }
     }
 
     fn clean(&self, phases: u8, phase: Phase, reading: &mut [u16]) -> bool {
-        reading.len() > 0 && clean_below(&self.0, phases, phase, 0, reading)
+        let Some((mark, below)) = reading.split_first_mut() else {
+            return false;
+        };
+        let written = self.0.clean(phases, phase, below);
+        if written {
+            *mark = 0;
+        }
+        written
     }
-}
-
-// Turns what stands below the first word.
-fn turn_below<F: Front>(front: &F, phases: u8, reading: &mut [u16])
-    requires { 0 < length reading.old }
-    ensures { reading.new ≡ take 1 reading.old ++ (F.Front.meaning front.now).turn phases (drop 1 reading.old) }
-{
-    front.turned(phases, &mut reading[1..]);
-}
-
-// Writes a first word and the clean reading below it, if that has its length.
-fn clean_below<F: Front>(
-    front: &F,
-    phases: u8,
-    phase: Phase,
-    first: u16,
-    reading: &mut [u16],
-) -> bool
-    requires { 0 < length reading.old }
-    ensures answer { result ≡ clean_goes (F.Front.meaning front.now) phases phase.0 (drop 1 reading.old) }
-    ensures reading { reading.new ≡ (if result then first ∷ (F.Front.meaning front.now).clean phases phase.0 else reading.old) }
-{
-    let written = front.clean(phases, phase, &mut reading[1..]);
-    if written {
-        reading[0] = first;
-    }
-    written
 }

@@ -5,7 +5,7 @@ ghost use Rattle.std.proofs.Common.{rules};
 
 use crate::score::Score;
 
-#[derive(Clone, Copy)]
+#[derive(Clone, Copy, Debug, Default, PartialEq, Eq)]
 pub struct Plain(pub u32);
 
 impl Plain {
@@ -13,7 +13,15 @@ impl Plain {
     pub fn worth(self) -> u64
         ensures { result ≡ plain_worth self }
     {
-        u64::from(self.0)
+        u64::from(self)
+    }
+}
+
+impl From<Plain> for u64 {
+    ghost from_gives = { λ score worth. worth ≡ plain_worth score };
+
+    fn from(score: Plain) -> u64 {
+        u64::from(score.0)
     }
 }
 

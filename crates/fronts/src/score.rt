@@ -16,6 +16,7 @@ pub trait Score: Copy {
     fn plus(self, other: Self) -> Self
         ensures { result ≡ sum self other };
 
+    // No `Ord`: two scores of one worth may differ, as strikes do, and `Ord` lets only equal values tie.
     fn less(self, other: Self) -> bool
         ensures { result ≡ nat_lt (worth self) (worth other) };
 

@@ -8,7 +8,7 @@ use crate::front::Front;
 use crate::strikes::Strikes;
 use code::Phase;
 
-#[derive(Clone, Copy)]
+#[derive(Clone, Copy, Debug, Default, PartialEq, Eq)]
 pub struct Strike;
 
 impl Front for Strike {
@@ -21,7 +21,7 @@ impl Front for Strike {
     }
 
     fn fit(&self, phases: u8, reading: &[u16]) -> bool {
-        reading.len() == 1 && reading[0] < phases as u16
+        matches!(reading, [read] if *read < u16::from(phases))
     }
 
     fn score(&self, phases: u8, reading: &[u16], phase: Phase) -> Strikes
@@ -29,30 +29,29 @@ impl Front for Strike {
         ensures small { strikes_worth result ≤ 1048575 }
         ensures fields { result ≡ strike_score phases reading.now phase.0 }
     {
-        let mut distance = 0;
-        if self.fit(phases, reading) && phase.0 < phases {
-            distance = between(phases, reading[0], phase);
-        }
+        let distance = if self.fit(phases, reading) && phase.0 < phases {
+            between(phases, reading[0], phase)
+        } else {
+            0
+        };
         Strikes {
             distance,
-            strikes: if distance >= 2 { 1 } else { 0 },
+            strikes: u16::from(distance >= 2),
         }
     }
 
     fn turned(&self, phases: u8, reading: &mut [u16]) {
         if self.fit(phases, reading) {
-            let next = (reading[0] + 1) % phases as u16;
-            write_word(reading, next);
+            reading[0] = (reading[0] + 1) % u16::from(phases);
         }
     }
 
     fn clean(&self, phases: u8, phase: Phase, reading: &mut [u16]) -> bool {
-        if phase.0 < phases && reading.len() == 1 {
-            write_word(reading, phase.0 as u16);
-            true
-        } else {
-            false
+        let goes = phase.0 < phases && self.wide(phases, reading.len());
+        if goes {
+            reading[0] = u16::from(phase.0);
         }
+        goes
     }
 }
 
@@ -61,14 +60,6 @@ fn between(phases: u8, read: u16, phase: Phase) -> u32
     requires { (read < phases) × (phase.0 < phases) }
     ensures { result ≡ around phases read phase.0 }
 {
-    let one_way = read.abs_diff(phase.0 as u16);
-    one_way.min(phases as u16 - one_way) as u32
-}
-
-// Writes the one word of a reading.
-fn write_word(reading: &mut [u16], word: u16)
-    requires { length reading.old ≡ 1 }
-    ensures { reading.new ≡ word ∷ [] }
-{
-    reading[0] = word;
+    let one_way = read.abs_diff(u16::from(phase.0));
+    u32::from(one_way.min(u16::from(phases) - one_way))
 }

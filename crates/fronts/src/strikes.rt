@@ -6,7 +6,7 @@ ghost use Rattle.std.proofs.Common.{rules};
 
 use crate::score::Score;
 
-#[derive(Clone, Copy)]
+#[derive(Clone, Copy, Debug, Default, PartialEq, Eq)]
 pub struct Strikes {
     pub distance: u32,
     pub strikes: u16,
@@ -17,7 +17,15 @@ impl Strikes {
     pub fn worth(self) -> u64
         ensures { result ≡ strikes_worth self }
     {
-        u64::from(self.strikes) * 65_536 + u64::from(self.distance)
+        u64::from(self)
+    }
+}
+
+impl From<Strikes> for u64 {
+    ghost from_gives = { λ score worth. worth ≡ strikes_worth score };
+
+    fn from(score: Strikes) -> u64 {
+        u64::from(score.strikes) * 65_536 + u64::from(score.distance)
     }
 }
 

@@ -3,9 +3,10 @@ ghost use Rattle.fronts.specs.TableLaws.{table_meaning};
 
 use crate::front::Front;
 use crate::plain::Plain;
+use crate::score::Score;
 use code::Phase;
 
-#[derive(Clone, Copy)]
+#[derive(Clone, Copy, Debug, Default, PartialEq, Eq)]
 pub struct Table;
 
 impl Front for Table {
@@ -14,34 +15,33 @@ impl Front for Table {
     ghost meaning = { λ _. table_meaning };
 
     fn wide(&self, phases: u8, words: usize) -> bool {
-        words == phases as usize
+        words == usize::from(phases)
     }
 
     fn fit(&self, phases: u8, reading: &[u16]) -> bool {
-        reading.len() == phases as usize
+        self.wide(phases, reading.len())
     }
 
     fn score(&self, phases: u8, reading: &[u16], phase: Phase) -> Plain {
-        if reading.len() == phases as usize && phase.0 < phases {
-            Plain(reading[phase.0 as usize] as u32)
+        if self.fit(phases, reading) && phase.0 < phases {
+            Plain(u32::from(reading[usize::from(phase.0)]))
         } else {
-            Plain(0)
+            Plain::nought()
         }
     }
 
     fn turned(&self, phases: u8, reading: &mut [u16]) {
-        if phases > 0 && reading.len() == phases as usize {
+        if phases > 0 && self.fit(phases, reading) {
             reading.rotate_right(1);
         }
     }
 
     fn clean(&self, phases: u8, phase: Phase, reading: &mut [u16]) -> bool {
-        if phase.0 < phases && reading.len() == phases as usize {
+        let goes = phase.0 < phases && self.wide(phases, reading.len());
+        if goes {
             reading.fill(1);
-            reading[phase.0 as usize] = 0;
-            true
-        } else {
-            false
+            reading[usize::from(phase.0)] = 0;
         }
+        goes
     }
 }
