@@ -1,10 +1,10 @@
 -- What tell and deliver answer.
-use Rattle.std.proofs.Common.{◌≡◌, ℕ, ◌+◌, ◌-◌, ◌*◌, ◌/◌, ◌^◌, ◌<◌, ◌≤◌, Bool, false, cond, eqb, ltb, ◌⊎◌, List, [], ◌∷◌, ◌++◌, length, take, drop, Some, None, sym, refl, ap, ◌∙◌, subst, inl, mul-le-mul_right, div-mul-le_self, arith}
+use Rattle.std.proofs.Common.{◌≡◌, ℕ, ◌+◌, ◌-◌, ◌*◌, ◌/◌, ◌^◌, ◌<◌, ◌≤◌, Bool, cond, eqb, ltb, ◌⊎◌, List, [], ◌∷◌, ◌++◌, length, take, drop, Some, None, Option, unwrap_or, sym, refl, ap, ◌∙◌, subst, inl, mul-le-mul_right, div-mul-le_self, arith}
 use lib.Seq.{take-append_seam}
 use Rattle.std.proofs.lemmas.List.{length-map}
 use Rattle.code.specs.declared.record.Code.{Code}
 use Rattle.code.specs.declared.units.Word.{Word}
-use Rattle.std.proofs.lemmas.Bool.{le-ltb, lt-ltb}
+use Rattle.std.proofs.lemmas.Bool.{le-ltb}
 use Rattle.reception.specs.Accepted.{IsCode}
 use Rattle.reception.specs.Answer.{Answer, refused, told, delivered, Told, Delivered, NoPath, TellAnswers, DeliverAnswers}
 use Rattle.reception.specs.Block.{Block, block, deliver_refusal}
@@ -23,11 +23,6 @@ use Rattle.survivors.specs.Best.{Survivor}
 use Rattle.survivors.specs.Trace.{trace, trace_start}
 use Rattle.trellis.specs.declared.Numbers.{Numbers}
 use Rattle.trellis.specs.Words.{words_of}
-
--- Before any symbol.
-pub tell_none : (n : Numbers) (ss : List Scores) → length ss ≡ 0 → TellAnswers (block n ss) (told 0 0 false)
-tell_none n [] e = refl
-tell_none n (s ∷ ss) e = absurd (omega arith)
 
 module _ (n : Numbers) (ss : List Scores) (row : ℕ → ℕ → Survivor) (c : Survivor) (f : Found n ss row c) where
   told-found : (k : ℕ) → k ≡ length ss → Told n ss (told k c.worth c.sole)
@@ -51,25 +46,12 @@ tell_some n [] row c f k is some = absurd (omega arith)
 tell_some n (s ∷ ss) row c f k is some = told-found n (s ∷ ss) row c f k is
 
 module _ (n : Numbers) (ss : List Scores) (len : ℕ) where
-  few_refused : length ss < 2 → deliver_refusal (block n ss) len ≡ 23
-  few_refused l = ap (λ (b : Bool). cond b 23 (cond (ltb len (length ss - 1)) 10 0)) (lt-ltb _ _ l)
-
-  short-refused : 2 ≤ length ss → len < length ss - 1 → deliver_refusal (block n ss) len ≡ 10
-  short-refused m l =
-      ap (λ (b : Bool). cond b 23 (cond (ltb len (length ss - 1)) 10 0)) (le-ltb _ _ m) ∙ ap (λ (b : Bool). cond b 10 0) (lt-ltb _ _ l)
-
   none-refused : 2 ≤ length ss → length ss - 1 ≤ len → deliver_refusal (block n ss) len ≡ 0
   none-refused m l =
       ap (λ (b : Bool). cond b 23 (cond (ltb len (length ss - 1)) 10 0)) (le-ltb _ _ m) ∙ ap (λ (b : Bool). cond b 10 0) (le-ltb _ _ l)
 
   abbrev by_refusal : Answer → ℕ → Type 0
   by_refusal a r = cond (eqb r 0) (Delivered n ss a ⊎ NoPath n ss a) (a ≡ refused r)
-
-  pub deliver_few : length ss < 2 → DeliverAnswers len (block n ss) (refused 23)
-  deliver_few l = subst (by_refusal (refused 23)) (sym (few_refused l)) refl
-
-  pub deliver_short : 2 ≤ length ss → len < length ss - 1 → DeliverAnswers len (block n ss) (refused 10)
-  deliver_short m l = subst (by_refusal (refused 10)) (sym (short-refused m l)) refl
 
   pub deliver_some : 2 ≤ length ss → length ss - 1 ≤ len → (row : ℕ → ℕ → Survivor) (c : Survivor) → Found n ss row c → (k : ℕ) (ws : List ℕ) → k ≡ length ss - 1 → ws ≡ words_of n (trace n row (length ss) c.label) → DeliverAnswers len (block n ss) (delivered k c.sole ws)
   deliver_some m l row c f k ws is words =
@@ -128,7 +110,7 @@ module _ {K S : Type 0} (says : K → Survivor) (worth : S → ℕ) (cs : List K
         (deliver_some m o.scores (length before) (omega arith) (omega arith) row (survivor worth c) found_at (count - 1) (take (count - 1) (numbers_in after))
         (ap (λ (j : ℕ). j - 1) is) (first ∙ ap (λ (j : ℕ). words_of m (trace m row j c.label)) is))
 
-  pub deliver_too_short : (len : ℕ) → 2 ≤ count → len < count - 1 → DeliverAnswers len b (refused 10)
-  deliver_too_short len some short =
-      let is = o.counts in
-      subst (λ (x : Block). DeliverAnswers len x (refused 10)) (sym o.is) (deliver_short k.numbers o.scores len (omega arith) (omega arith))
+  -- From the end that was found, or none.
+  pub tell_by : (found : Option (Cell S)) (none end : Cell S) → BlockEnd worth (survivors says cs) k.numbers count found → end ≡ unwrap_or found none → 0 < count → TellAnswers b (told count (worth end.score) end.sole)
+  tell_by None none end ends is some = absurd (end_there some ends)
+  tell_by (Some c) none end ends is some = subst (λ (x : Cell S). TellAnswers b (told count (worth x.score) x.sole)) (sym is) (tell-end c ends some)

@@ -6,6 +6,9 @@ pub mod Pairs
 pub mod Ways
 pub mod Following
 pub mod Places
+pub mod Written
+pub mod Made
+pub mod Room
 pub mod Begun
 pub mod Opened
 pub mod Taken

@@ -1,6 +1,6 @@
 -- What the limits of a code give the receiver.
-use Rattle.std.proofs.Common.{◌≡◌, ℕ, suc, ◌+◌, ◌*◌, ◌/◌, ◌^◌, ◌<◌, ◌≤◌, true, ◌&&◌, ◌||◌, eqb, leb, ap, ◌∙◌, ⊎_elim, mul-le-mul_right, suc-mul, add-one, arith, pow_pos}
-use native.Mathlib.Nat.{mul-div_cancel_left, pow-le-pow_right}
+use Rattle.std.proofs.Common.{◌≡◌, ℕ, ◌+◌, ◌^◌, ◌≤◌, true, ◌&&◌, ◌||◌, eqb, leb, ⊎_elim, arith}
+use native.Mathlib.Nat.{pow-le-pow_right}
 use Rattle.std.proofs.lemmas.Bool.{and_parts, eqb-true, leb-true, or_cases}
 use Rattle.code.specs.declared.record.Code.{Code}
 use Rattle.trellis.specs.Limits.{is_phases}
@@ -12,9 +12,6 @@ use Rattle.trellis.proofs.Sets.{within, places_bound}
 pub places_most : (k : Code) → k.numbers.places ≤ 4
 places_most k = places_bound k.numbers (within k.numbers k.limits)
 
-pub places-some : (k : Code) → 0 < k.numbers.places
-places-some k = let some = (within k.numbers k.limits).offset in omega arith
-
 is_phases_most : (m : ℕ) → is_phases m ≡ true → m ≤ 16
 is_phases_most m e =
     ⊎_elim (λ h. omega (arith, eqb-true m 4 h))
@@ -23,19 +20,6 @@ is_phases_most m e =
 
 pub phases_most : (k : Code) → k.numbers.phases ≤ 16
 phases_most k = is_phases_most k.numbers.phases (within k.numbers k.limits).phases
-
--- One part of a reading, of so many words, ends within it.
-pub part_fits : (len places W a at : ℕ) → len ≡ places * W → at ≡ a * W → a < places → at + W ≤ len
-part_fits len places W a at long is h =
-    let more = suc-mul a W in
-    let most : suc a * W ≤ places * W = mul-le-mul_right {m = suc a} {n = places} W (omega arith) in
-    omega arith
-
-pub part_words : (k : Code) (len W : ℕ) → len ≡ k.numbers.places * W → len / k.numbers.places ≡ W
-part_words k len W e = ap (λ (x : ℕ). x / k.numbers.places) e ∙ mul-div_cancel_left W (places-some k)
-
-pub next_part : (W a at : ℕ) → at ≡ a * W → at + W ≡ (a + 1) * W
-next_part W a at is = let more = suc-mul a W in let up = ap (λ (x : ℕ). x * W) (add-one a) in omega arith
 
 accepted : (k : Code) → Sends k.numbers
 accepted k = sends k.numbers k.limits k.polynomials k.parity
@@ -61,9 +45,6 @@ checked_most k = (checked_parts k).1
 pub groups_most : (k : Code) → 2 ^ (k.numbers.checked + 1) ≤ 16
 groups_most k = let few = checked_most k in power_up (k.numbers.checked + 1) 4 (omega arith)
 
-pub groups_some : (k : Code) → 0 < 2 ^ (k.numbers.checked + 1)
-groups_some k = pow_pos (k.numbers.checked + 1)
-
 pub groups_labels : (k : Code) → 2 ^ (k.numbers.checked + 1) ≤ 2 ^ label_bits k.numbers
 groups_labels k =
     let few = (checked_parts k).2 in
@@ -85,6 +66,3 @@ states_most k = power_up k.numbers.memory 8 (memory_most k)
 
 pub checked_least : (k : Code) → 1 ≤ k.numbers.checked
 checked_least k = (checked_parts k).0
-
-pub groups_two : (k : Code) → 2 ≤ 2 ^ (k.numbers.checked + 1)
-groups_two k = power_up 1 (k.numbers.checked + 1) (omega arith)

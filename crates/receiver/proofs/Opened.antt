@@ -1,7 +1,6 @@
 -- A block that was just opened.
-use Rattle.std.proofs.Common.{◌≡◌, ℕ, zero, suc, ◌+◌, ◌*◌, ◌^◌, ◌<◌, ◌≤◌, Bool, false, cond, eqb, ltb, List, [], get_or, sym, ap, ◌∙◌, zero-add, zero-mul, arith}
-use Rattle.reception.specs.Answer.{opened, unless_refused}
-use Rattle.reception.specs.Block.{Block, block, opens, capacity, open_refusal, after}
+use Rattle.std.proofs.Common.{◌≡◌, ℕ, zero, suc, ◌+◌, ◌*◌, ◌^◌, ◌<◌, ◌≤◌, Bool, false, cond, eqb, ltb, List, [], get_or, ap, ◌∙◌, zero-add, zero-mul, arith}
+use Rattle.reception.specs.Block.{Block, block, opens, open_refusal, after}
 use Rattle.receiver.specs.Cells.{survivors, no_survivor, empty_path}
 use Rattle.receiver.specs.Stands.{rows_in, RowMost, Holds}
 use Rattle.survivors.specs.Best.{Survivor}
@@ -13,9 +12,6 @@ module _ (cells : ℕ) (n : Numbers) (enough : ltb cells (2 ^ n.memory * (n.memo
 
   pub opened_block : (b : Block) → after cells b (opens n) ≡ block n []
   opened_block b = ap (λ (r : ℕ). cond (eqb r 0) (block n []) b) opens_refused
-
-  pub opened_answer : (k : ℕ) → k ≡ capacity cells n → opened k ≡ unless_refused (open_refusal cells n) (opened (capacity cells n))
-  opened_answer k is = ap opened is ∙ sym (ap (λ (r : ℕ). unless_refused r (opened (capacity cells n))) opens_refused)
 
 module _ {K : Type 0} (says : K → Survivor) (cs : List K) (n : Numbers) (first : (E : ℕ) → E < 2 ^ n.memory → get_or (survivors says cs) E no_survivor ≡ empty_path) where
   first_row : (E : ℕ) → E < 2 ^ n.memory → rows_in says cs n 0 E ≡ empty_path

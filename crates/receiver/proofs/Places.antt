@@ -1,35 +1,34 @@
--- The readings of a symbol's places, judged one after another.
-use Rattle.std.proofs.Common.{◌≡◌, ℕ, suc, ◌+◌, ◌-◌, ◌*◌, ◌/◌, ◌%◌, ◌<◌, false, ◌&&◌, eqb, List, length, take, drop, sym, ap, ◌∙◌, ⊎_elim, add-zero, add-mul, one-mul, arith, length-drop, take_all}
-use native.Mathlib.Nat.{mul-mod_right, mul-div_cancel_left, div-add-mod}
-use Rattle.std.proofs.lemmas.Bool.{eq-eqb, ne_eqb, cases_eq}
+-- The readings of a symbol's places.
+use Rattle.std.proofs.Common.{◌≡◌, ℕ, zero, suc, ◌+◌, ◌-◌, ◌*◌, ◌<◌, Bool, true, false, List, take, drop, sym, refl, ap, ◌∙◌, ⊎_elim, zero-mul, add_comm, suc-mul, arith, drop-drop}
+use Rattle.std.proofs.lemmas.Bool.{and_from, and_left, and_right, cases_eq}
 use Rattle.reception.specs.Front.{FrontMeaning}
-use Rattle.reception.specs.Reading.{all_fit}
+use Rattle.reception.specs.Reading.{all_fit, place_reading}
 
-pub one_less : (p i : ℕ) → i < p → p - i ≡ suc (p - (i + 1))
-one_less p i l = omega arith
+place_part : (W : ℕ) (ws : List ℕ) (a : ℕ) → place_reading W ws a ≡ take W (drop (a * W) ws)
+place_part W ws zero = ap (λ (k : ℕ). take W (drop k ws)) (sym (zero-mul W))
+place_part W ws (suc a) =
+    place_part W (drop W ws) a ∙ ap (take W) (drop-drop (a * W) W ws) ∙ ap (λ (k : ℕ). take W (drop k ws)) (add_comm W (a * W) ∙ sym (suc-mul a W))
 
--- The words of the places that are left hold those of the next.
-pub words_left : (p i size : ℕ) → i < p → (p - i) * size ≡ size + (p - (i + 1)) * size
-words_left p i size l =
-    let less : p - i ≡ 1 + (p - (i + 1)) = omega arith in
-    ap (λ (k : ℕ). k * size) less ∙ add-mul 1 (p - (i + 1)) size ∙ ap (λ (k : ℕ). k + (p - (i + 1)) * size) (one-mul size)
+-- The part of a symbol's reading at an offset is the reading of a place.
+pub part_is : (W width at a : ℕ) (ws : List ℕ) → width ≡ W → at ≡ a → take (at * width + width - at * width) (drop (at * width) ws) ≡ place_reading W ws a
+part_is W width at a ws wide is =
+    let size : at * width + width - at * width ≡ width = omega arith in
+    (λ i. take ((size ∙ wide) i) (drop (is i * wide i) ws)) ∙ sym (place_part W ws a)
 
-pub fit_left : (f : FrontMeaning) (M W p i : ℕ) (ws : List ℕ) → W ≡ f.width M → i < p → all_fit f M (p - i) ws ≡ (f.fit M (take W ws) && all_fit f M (p - (i + 1)) (drop W ws))
-fit_left f M W p i ws is l =
-    ap (λ (k : ℕ). all_fit f M k ws) (one_less p i l) ∙ ap (λ (k : ℕ). f.fit M (take k ws) && all_fit f M (p - (i + 1)) (drop k ws)) (sym is)
+module _ (f : FrontMeaning) (M : ℕ) where
+  abbrev pub FitAt : List ℕ → ℕ → Bool → Type 0
+  FitAt ws a b = f.fit M (place_reading (f.width M) ws a) ≡ b
 
--- A part to the end is what is left.
-pub take_rest : (ws : List ℕ) (k : ℕ) → take (length ws - k) (drop k ws) ≡ drop k ws
-take_rest ws k = take_all (length ws - k) (drop k ws) (simp length-drop (omega arith))
+  pub all_fit-each : (p : ℕ) (ws : List ℕ) → ((a : ℕ) → a < p → FitAt ws a true) → all_fit f M p ws ≡ true
+  all_fit-each zero ws each = refl
+  all_fit-each (suc p) ws each =
+      and_from (f.fit M (take (f.width M) ws)) (all_fit f M p (drop (f.width M) ws)) (each 0 (omega arith)) (all_fit-each p (drop (f.width M) ws) (λ a l. each (suc a) (omega arith)))
 
--- The length is that of so many places exactly where it is a multiple and the quotient is the width of one.
-pub sized_by : (len p W : ℕ) → 0 < p → len % p ≡ 0 → eqb (len / p) W ≡ eqb len (p * W)
-sized_by len p W some whole =
-    let back : p * (len / p) ≡ len = sym (add-zero (p * (len / p))) ∙ ap (λ (k : ℕ). p * (len / p) + k) (sym whole) ∙ div-add-mod len p in
-    ⊎_elim
-    (λ (e : len / p ≡ W). eq-eqb _ _ e ∙ sym (eq-eqb len (p * W) (sym back ∙ ap (λ (k : ℕ). p * k) e)))
-    (λ (ne : len / p ≡ W → ⊥). ne_eqb _ _ ne ∙ sym (ne_eqb len (p * W) (λ e. ne (ap (λ (k : ℕ). k / p) e ∙ mul-div_cancel_left W some))))
-    (cases_eq (len / p) W)
+  pub all_fit-not : (p : ℕ) (ws : List ℕ) (a : ℕ) → a < p → FitAt ws a false → all_fit f M p ws ≡ false
+  all_fit-not zero ws a l e = absurd (omega arith)
+  all_fit-not (suc p) ws zero l e = and_left (f.fit M (take (f.width M) ws)) (all_fit f M p (drop (f.width M) ws)) e
+  all_fit-not (suc p) ws (suc a) l e = and_right (f.fit M (take (f.width M) ws)) (all_fit f M p (drop (f.width M) ws)) (all_fit-not p (drop (f.width M) ws) a (omega arith) e)
 
-pub not_sized : (len p W : ℕ) → (len % p ≡ 0 → ⊥) → eqb len (p * W) ≡ false
-not_sized len p W ne = ne_eqb len (p * W) (λ e. ne (ap (λ (k : ℕ). k % p) e ∙ mul-mod_right p W))
+  pub fit_more : (ws : List ℕ) (i : ℕ) → FitAt ws i true → ((a : ℕ) → a < i → FitAt ws a true) → (a : ℕ) → a < i + 1 → FitAt ws a true
+  fit_more ws i here each a l =
+      ⊎_elim (λ (e : a ≡ i). ap (λ (k : ℕ). f.fit M (place_reading (f.width M) ws k)) e ∙ here) (λ (e : a ≡ i → ⊥). each a (omega arith)) (cases_eq a i)

@@ -1,7 +1,7 @@
 -- The labels of one group, one after another.
-use Rattle.std.proofs.Common.{◌≡◌, ℕ, ◌+◌, ◌*◌, ◌/◌, ◌%◌, ◌^◌, ◌<◌, ◌≤◌, List, length, get_or, set, sym, refl, ap, ◌∙◌, subst, inl, inr, ⊎_elim, mod-eq_of_lt, mul-one, mul-add, arith, pow_pos}
+use Rattle.std.proofs.Common.{◌≡◌, ℕ, ◌+◌, ◌*◌, ◌/◌, ◌%◌, ◌^◌, ◌<◌, ◌≤◌, List, ◌++◌, length, get_or, set, sym, refl, ap, ◌∙◌, subst, inl, inr, ⊎_elim, mod-eq_of_lt, mul-one, mul-add, arith, pow_pos}
 use native.Mathlib.Nat.{div-add-mod, lt_of_mul-lt-mul_left, mod-le, add-mod_right}
-use Rattle.std.proofs.lemmas.List.{get_or-set_same, get_or-set_other, length-map, map-set}
+use Rattle.std.proofs.lemmas.List.{get_or-set_same, get_or-set_other, get_or_append_left, length-map, map-append, map-set}
 use Rattle.std.proofs.lemmas.Bool.{cases_eq, cases_lt}
 use Rattle.receiver.specs.declared.cell.Cell.{Cell}
 use Rattle.receiver.specs.Cells.{survivor, survivors, no_survivor}
@@ -70,13 +70,21 @@ pub first_residue : (g w : ℕ) → g < w → (g + w) % w ≡ g
 first_residue g w h = add-mod_right g w ∙ mod-eq_of_lt h
 
 -- One group more.
-pub groups_more : {X : Type 0} (worth : X → ℕ) (n : Numbers) (f : ℕ → ℕ) (g : ℕ) (cs : List (Cell X)) (c : Cell X) → g < length cs → GroupBest n f g (survivor worth c) → GroupsBest n f g (survivors (survivor worth) cs) → GroupsBest n f (g + 1) (survivors (survivor worth) (set cs g c))
-groups_more worth n f g cs c within best so_far k h =
-    let long = length-map cs (survivor worth) in
-    let is = map-set (survivor worth) cs g c in
-    subst (λ (xs : List Survivor). GroupBest n f k (get_or xs k no_survivor)) (sym is)
-    (⊎_elim
-    (λ (e : k ≡ g). subst (λ (x : Survivor). GroupBest n f k x) (sym (ap (λ (j : ℕ). get_or (set (survivors (survivor worth) cs) g (survivor worth c)) j no_survivor) e ∙ get_or-set_same (survivors (survivor worth) cs) g (survivor worth c) no_survivor (omega arith)))
-    (subst (λ (j : ℕ). GroupBest n f j (survivor worth c)) (sym e) best))
-    (λ (e : k ≡ g → ⊥). subst (λ (x : Survivor). GroupBest n f k x) (sym (get_or-set_other (survivors (survivor worth) cs) g k (survivor worth c) no_survivor e)) (so_far k (omega arith)))
-    (cases_eq k g))
+module _ {X : Type 0} (worth : X → ℕ) (n : Numbers) (f : ℕ → ℕ) where
+  pub groups_more : (g : ℕ) (cs : List (Cell X)) (c : Cell X) → g < length cs → GroupBest n f g (survivor worth c) → GroupsBest n f g (survivors (survivor worth) cs) → GroupsBest n f (g + 1) (survivors (survivor worth) (set cs g c))
+  groups_more g cs c within best so_far k h =
+      let long = length-map cs (survivor worth) in
+      let is = map-set (survivor worth) cs g c in
+      subst (λ (xs : List Survivor). GroupBest n f k (get_or xs k no_survivor)) (sym is)
+      (⊎_elim
+      (λ (e : k ≡ g). subst (λ (x : Survivor). GroupBest n f k x) (sym (ap (λ (j : ℕ). get_or (set (survivors (survivor worth) cs) g (survivor worth c)) j no_survivor) e ∙ get_or-set_same (survivors (survivor worth) cs) g (survivor worth c) no_survivor (omega arith)))
+      (subst (λ (j : ℕ). GroupBest n f j (survivor worth c)) (sym e) best))
+      (λ (e : k ≡ g → ⊥). subst (λ (x : Survivor). GroupBest n f k x) (sym (get_or-set_other (survivors (survivor worth) cs) g k (survivor worth c) no_survivor e)) (so_far k (omega arith)))
+      (cases_eq k g))
+
+  -- The groups stand at the front of the cells.
+  pub groups_front : (many : ℕ) (cs rest : List (Cell X)) → many ≤ length cs → GroupsBest n f many (survivors (survivor worth) cs) → GroupsBest n f many (survivors (survivor worth) (cs ++ rest))
+  groups_front many cs rest room best k h =
+      subst (GroupBest n f k)
+      (sym (ap (λ (xs : List Survivor). get_or xs k no_survivor) (map-append (survivor worth) cs rest) ∙ get_or_append_left (survivors (survivor worth) cs) (survivors (survivor worth) rest) no_survivor k (omega (arith, length-map cs (survivor worth)))))
+      (best k h)

@@ -1,17 +1,15 @@
 -- A receiver with a block open, and what take answers then.
-use Rattle.std.proofs.Common.{◌≡◌, ℕ, ◌+◌, ◌*◌, ◌/◌, ◌^◌, ◌<◌, ◌≤◌, Bool, true, false, cond, eqb, leb, List, [], ◌∷◌, ◌++◌, length, Some, None, Option, sym, refl, ap, ◌∙◌, subst, mul-le-mul_right, div-mul-le_self, arith}
+use Rattle.std.proofs.Common.{◌≡◌, ℕ, ◌+◌, ◌*◌, ◌/◌, ◌^◌, ◌<◌, ◌≤◌, Bool, true, false, cond, eqb, leb, List, [], ◌∷◌, ◌++◌, length, Some, None, Option, ok_or, Ok, sym, refl, ap, ◌∙◌, subst, mul-le-mul_right, div-mul-le_self, arith}
 use Rattle.std.proofs.lemmas.Bool.{leb-false, eqb-true}
 use Rattle.code.specs.declared.record.Code.{Code}
-use Rattle.reception.specs.Answer.{refused, taken, unless_refused}
 use Rattle.reception.specs.Block.{Block, no_block, block, takes, capacity, take_refusal, extended, after}
 use Rattle.reception.specs.Front.{FrontMeaning}
 use Rattle.reception.specs.Reading.{all_fit}
 use Rattle.reception.specs.Worth.{Scores, scores_of}
-use Rattle.receiver.specs.Refusal.{refusal_number, take_refusal_at}
+use Rattle.receiver.specs.Refusal.{take_refusal_at}
 use Rattle.receiver.specs.Stands.{Holds, StandsBy}
 use Rattle.receiver.specs.declared.record.Progress.{Progress}
-use Rattle.receiver.specs.declared.refusal.Refusal.{Refusal}
-use Rattle.receiver.specs.declared.refusal.Refusal.TheVariants.{Cells, Closed, Full, Length, Unfit, Few, Short, NoPath}
+use Rattle.receiver.specs.declared.refusal.Refusal.TheVariants.{Closed}
 use Rattle.survivors.specs.Best.{Survivor}
 use Rattle.trellis.specs.declared.Numbers.{Numbers}
 
@@ -21,6 +19,11 @@ pub record StandsFor {K : Type 0} (says : K → Survivor) (cs : List K) (c : Cod
   pub is : b ≡ block c.numbers scores
   pub counts : count ≡ length scores
   pub holds : Holds says cs c.numbers scores
+
+-- The code that `ok_or` found.
+pub open_is : (o : Option Code) (c : Code) → Ok c ≡ ok_or o Closed → o ≡ Some c
+open_is None c e = cc
+open_is (Some d) c e = cc
 
 differ : (c : Code) (o : Option Code) → o ≡ None → o ≡ Some c → ⊥
 differ c o p q = let z : ◌≡◌ {A = ℕ} 0 1 = cc in omega arith
@@ -37,30 +40,9 @@ standing says cs p c (block n ss) e s =
 pub stands_again : {K : Type 0} (says : K → Survivor) (cs : List K) (p : Progress) (c : Code) (ss : List Scores) → p.code ≡ Some c → p.count ≡ length ss → Holds says cs c.numbers ss → StandsBy says cs p (block c.numbers ss)
 stands_again says cs p c ss e k h = ((c, e, refl), k, h)
 
--- A refusal's number is not 0.
-by_number : {X : Type 0} (e : Refusal) (x y : X) → cond (eqb (refusal_number e) 0) x y ≡ y
-by_number Cells x y = refl
-by_number Closed x y = refl
-by_number Full x y = refl
-by_number Length x y = refl
-by_number Unfit x y = refl
-by_number Few x y = refl
-by_number Short x y = refl
-by_number NoPath x y = refl
-
 module _ (cells : ℕ) (f : FrontMeaning) (ws : List ℕ) (n : Numbers) (ss : List Scores) (count : ℕ) (b : Block) (is : b ≡ block n ss) (counts : count ≡ length ss) where
   refusal_is : take_refusal cells b f ws ≡ take_refusal_at cells n count f ws
   refusal_is = ap (λ (x : Block). take_refusal cells x f ws) is ∙ ap (λ (k : ℕ). take_refusal_at cells n k f ws) (sym counts)
-
-  pub take-refused : (e : Refusal) → refusal_number e ≡ take_refusal_at cells n count f ws → refused (refusal_number e) ≡ unless_refused (take_refusal cells b f ws) taken
-  take-refused e why =
-      sym (by_number e taken (refused (refusal_number e))) ∙ ap (λ (r : ℕ). unless_refused r taken) (why ∙ sym refusal_is)
-
-  pub take_left : (e : Refusal) → refusal_number e ≡ take_refusal_at cells n count f ws → after cells b (takes f ws) ≡ b
-  take_left e why = ap (λ (r : ℕ). cond (eqb r 0) (extended b f ws) b) (refusal_is ∙ sym why) ∙ by_number e (extended b f ws) b
-
-  pub take_answered : 0 ≡ take_refusal_at cells n count f ws → taken ≡ unless_refused (take_refusal cells b f ws) taken
-  take_answered why = ap (λ (r : ℕ). unless_refused r taken) (why ∙ sym refusal_is)
 
   pub take_more : 0 ≡ take_refusal_at cells n count f ws → after cells b (takes f ws) ≡ block n (ss ++ (scores_of f n.phases ws ∷ []))
   take_more why = ap (λ (r : ℕ). cond (eqb r 0) (extended b f ws) b) (refusal_is ∙ sym why) ∙ ap (λ (x : Block). extended x f ws) is

@@ -1,14 +1,12 @@
 -- The ways into a half of the states.
-use Rattle.std.proofs.Common.{◌≡◌, ℕ, ◌+◌, ◌-◌, ◌*◌, ◌/◌, ◌^◌, ◌<◌, ◌≤◌, List, length, get_or, set, sym, ap, ◌∙◌, subst, ⊎_elim, one-mul, add-one, arith}
+use Rattle.std.proofs.Common.{◌≡◌, ℕ, ◌+◌, ◌-◌, ◌*◌, ◌/◌, ◌^◌, ◌<◌, List, length, get_or, take, drop, sym, ap, ◌∙◌, subst, ⊎_elim, one-mul, add-one, add_comm, arith, length-take-le, length-drop, get_or-take, get_or-drop}
 use lib.Bits.{bit_xor, xor_assoc, xor_comm, xor_lt, xor_shifted, xor_zero_l}
-use Rattle.std.proofs.lemmas.List.{get_or-set_same, get_or-set_other}
-use Rattle.std.proofs.lemmas.Bool.{cases_eq}
 use Rattle.code.specs.declared.record.Code.{Code}
 use Rattle.receiver.specs.declared.entering.Way.{Way}
 use Rattle.receiver.specs.Cells.{survivor, no_survivor}
 use Rattle.receiver.specs.Entered.{Exact, PairBest, continued}
 use Rattle.receiver.specs.Grouped.{GroupsBest}
-use Rattle.receiver.specs.Ways.{StartsHalf, Known, WaysFrom, WaysInto}
+use Rattle.receiver.specs.Ways.{StartsHalf, Into, Known, Reaches}
 use Rattle.reception.specs.Worth.{Scores, label_worth}
 use Rattle.survivors.specs.Best.{Survivor}
 use Rattle.survivors.specs.Rows.{back}
@@ -32,16 +30,6 @@ states_even k states are =
     let even = pairs_are (v - 1) in
     let same : 2 ^ (v - 1 + 1) ≡ 2 ^ v = ap (λ (x : ℕ). 2 ^ x) up in
     omega arith
-
--- One way more, of which P holds.
-pub ways_more : {X : Type 0} (P : ℕ → Way X → Type 0) (ways : List (Way X)) (u : ℕ) (w : Way X) → u < length ways → P u w → ((x : ℕ) (y : Way X) → x < u → y ≡ get_or ways x y → P x y) → (x : ℕ) (y : Way X) → x < u + 1 → y ≡ get_or (set ways u w) x y → P x y
-ways_more P ways u w within here so_far x y small is =
-    ⊎_elim
-    (λ (e : x ≡ u).
-    let same : y ≡ w = is ∙ ap (λ (k : ℕ). get_or (set ways u w) k y) e ∙ get_or-set_same ways u w y within in
-    subst (λ k. P k y) (sym e) (subst (P u) (sym same) here))
-    (λ (e : x ≡ u → ⊥). so_far x y (omega arith) (is ∙ get_or-set_other ways u x w y e))
-    (cases_eq x u)
 
 -- A state of a half, doubled.
 doubled : (n : Numbers) (first step : ℕ) → StartsHalf n first → 2 * step < 2 ^ n.memory → 2 * (first + step) ≡ bit_xor (2 * first) (2 * step)
@@ -72,18 +60,6 @@ half_first k first start =
     let some = states_least k in
     ⊎_elim (λ (e : first ≡ 0). omega arith) (λ (e : 2 * first ≡ 2 ^ k.numbers.memory). omega arith) start
 
-pub half_fits : (k : Code) (states first : ℕ) → states ≡ 2 ^ k.numbers.memory → StartsHalf k.numbers first → first + states / 2 ≤ states
-half_fits k states first are start =
-    let even = states_even k states are in
-    ⊎_elim (λ (e : first ≡ 0). omega arith) (λ (e : 2 * first ≡ 2 ^ k.numbers.memory). omega arith) start
-
--- There are 2, 4 or 8 ways.
-pub ways_two : (k : Code) → k.numbers.checked ≡ 1 → 2 ≡ 2 ^ k.numbers.checked
-ways_two k e = sym (ap (λ (x : ℕ). 2 ^ x) e)
-
-pub ways_four : (k : Code) → k.numbers.checked ≡ 2 → 4 ≡ 2 ^ k.numbers.checked
-ways_four k e = sym (ap (λ (x : ℕ). 2 ^ x) e)
-
 pub ways_eight : (k : Code) → (k.numbers.checked ≡ 1 → ⊥) → (k.numbers.checked ≡ 2 → ⊥) → 8 ≡ 2 ^ k.numbers.checked
 ways_eight k one two =
     let least = checked_least k in
@@ -91,27 +67,39 @@ ways_eight k one two =
     let e : k.numbers.checked ≡ 3 = omega arith in
     sym (ap (λ (x : ℕ). 2 ^ x) e)
 
-pub known_by : {X : Type 0} (k : Code) (bs : List Survivor) (worth : X → ℕ) (states first many : ℕ) (ways : List (Way X)) → many ≡ 2 ^ k.numbers.checked → states ≡ 2 ^ k.numbers.memory → StartsHalf k.numbers first → WaysFrom states (2 ^ k.numbers.checked) ways → WaysInto k.numbers bs worth first (2 ^ k.numbers.checked) ways → Known k bs worth first many ways
-known_by k bs worth states first many ways all are start from into = record {
-  pairs = all;
+-- The ways of a code, by what each is.
+pub known_by : {X : Type 0} (k : Code) (bs : List Survivor) (worth : X → ℕ) (first : ℕ) (ways : List (Way X)) → length ways ≡ 2 ^ k.numbers.checked → StartsHalf k.numbers first → ((u : ℕ) (d : Way X) → u < length ways → Into k.numbers bs worth first u (get_or ways u d)) → Known k bs worth first ways
+known_by k bs worth first ways long start each = record {
+  pairs = long;
   start = start;
-  from = λ u w h e. let low = from u w (omega arith) e in omega arith;
-  into = λ u w h e. into u w (omega arith) e;
+  into = λ u w h e. subst (Into k.numbers bs worth first u) (sym e) (each u w h);
 }
 
+pub reaches : {X : Type 0} (k : Code) (bs : List Survivor) (worth : X → ℕ) (first step : ℕ) (ways : List (Way X)) → Known k bs worth first ways → 2 * step < 2 ^ k.numbers.memory → Reaches ways step (2 ^ k.numbers.memory)
+reaches k bs worth first step ways known small u w h e = xor_lt k.numbers.memory w.before (2 * step) (known.into u w h e).low small
+
+-- The elements behind the first of a list that is known under another name.
+module _ {X : Type 0} (xs all : List X) (is : all ≡ xs) where
+  pub length-others : length (take (length all - 1) (drop 1 all)) ≡ length xs - 1
+  length-others = length-take-le (length all - 1) (drop 1 all) (omega (arith, length-drop 1 all)) ∙ ap (λ (ys : List X). length ys - 1) is
+
+  pub other_at : (i : ℕ) (x : X) → i < length (take (length all - 1) (drop 1 all)) → x ≡ get_or (take (length all - 1) (drop 1 all)) i x → x ≡ get_or xs (i + 1) x
+  other_at i x l at =
+      at ∙ get_or-take (length all - 1) (drop 1 all) i x (omega (arith, length-others, ap length is)) ∙ get_or-drop 1 all i x
+      ∙ (λ j. get_or (is j) (add_comm 1 i j) x)
+
 -- The best of a pair of groups, by its way.
-pub way_best : {X : Type 0} (k : Code) (s : Scores) (row : ℕ → Survivor) (bs : List Survivor) (worth : X → ℕ) (first step many u : ℕ) (ways : List (Way X)) (w : Way X) (r : Survivor) → Known k bs worth first many ways → 2 * step < 2 ^ k.numbers.memory → u < many → w ≡ get_or ways u w → GroupsBest k.numbers (label_worth k.numbers s) (2 ^ (k.numbers.checked + 1)) bs → Exact k.numbers row bs → ((row (bit_xor w.before (2 * step))).worth + worth w.last.score < 2 ^ 30 → r ≡ continued (row (bit_xor w.before (2 * step))) (survivor worth w.last)) → PairBest k.numbers s row (first + step) u r
-way_best k s row bs worth first step many u ways w r known small few at groups exact made =
+pub way_best : {X : Type 0} (k : Code) (s : Scores) (row : ℕ → Survivor) (bs : List Survivor) (worth : X → ℕ) (first step u : ℕ) (ways : List (Way X)) (w : Way X) (r : Survivor) → Known k bs worth first ways → 2 * step < 2 ^ k.numbers.memory → u < length ways → w ≡ get_or ways u w → GroupsBest k.numbers (label_worth k.numbers s) (2 ^ (k.numbers.checked + 1)) bs → Exact k.numbers row bs → ((row (bit_xor w.before (2 * step))).worth + worth w.last.score < 2 ^ 30 → r ≡ continued (row (bit_xor w.before (2 * step))) (survivor worth w.last)) → PairBest k.numbers s row (first + step) u r
+way_best k s row bs worth first step u ways w r known small few at groups exact made =
     let n = k.numbers in
     let all = known.pairs in
     let into = known.into u w few at in
-    let low = known.from u w few at in
     let start = known.start in
     let g = into.group in
     let from = bit_xor w.before (2 * step) in
     let of = into.pair in
     let groups_are = pairs_are n.checked in
-    let within : from < 2 ^ n.memory = xor_lt n.memory w.before (2 * step) low small in
+    let within : from < 2 ^ n.memory = xor_lt n.memory w.before (2 * step) into.low small in
     let is : from ≡ back n (first + step) g = ap (λ (x : ℕ). bit_xor x (2 * step)) into.before ∙ sym (back_step n first step g start small) in
     let sum = exact from g within (omega arith) in
     let last = ap (λ (v : Survivor). v.worth) into.last in

@@ -18,6 +18,10 @@ empty_path = record { worth = 0; label = 0; sole = true }
 abbrev pub survivors : {K : Type 0} → (K → Survivor) → List K → List Survivor
 survivors says cs = map says cs
 
+-- A row of survivors, by its states.
+abbrev pub row_in : List Survivor → ℕ → Survivor
+row_in cs E = slice_index_or cs E no_survivor
+
 -- Row t of a list of survivors, with so many states a row.
 abbrev pub row_of : List Survivor → ℕ → ℕ → ℕ → Survivor
 row_of cs states t E = slice_index_or cs (t * states + E) no_survivor

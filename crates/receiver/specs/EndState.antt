@@ -1,5 +1,5 @@
 -- The best end state of a row.
-use Rattle.std.specs.Prelude.{◌≡◌, ℕ, ◌+◌, ◌*◌, ◌^◌, ◌<◌, ◌≤◌, true, false, cond, List, length, Some, None, Option, nat_lt, slice_index_or}
+use Rattle.std.specs.Prelude.{◌≡◌, ℕ, ◌+◌, ◌*◌, ◌^◌, ◌<◌, ◌≤◌, true, List, length, Some, None, Option, slice_index_or}
 use Rattle.receiver.specs.declared.cell.Cell.{Cell}
 use Rattle.receiver.specs.Cells.{survivor, no_survivor, row_of}
 use Rattle.survivors.specs.Best.{Survivor, Best}
@@ -9,11 +9,6 @@ use Rattle.trellis.specs.declared.Numbers.{Numbers}
 -- What the row has for a state, with the state's number in the place of the label.
 abbrev pub end_at : ℕ → Survivor → Survivor
 end_at E c = record { worth = c.worth; label = E; sole = c.sole }
-
--- The better of two, the first of a lower state: less worth wins; of equal worth the lower state, and then none is sole.
-abbrev pub better_end : Survivor → Survivor → Survivor
-better_end a b =
-    cond (nat_lt a.worth b.worth) a (cond (nat_lt b.worth a.worth) b (record { worth = a.worth; label = a.label; sole = false }))
 
 -- c is the best end state of the row cs.
 abbrev pub BestOf : List Survivor → Survivor → Type 0

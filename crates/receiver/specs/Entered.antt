@@ -1,15 +1,11 @@
 -- The branches into one state, by the pairs of groups that differ in z0: of each pair exactly one group enters the state.
-use Rattle.std.specs.Prelude.{◌≡◌, ℕ, ◌+◌, ◌/◌, ◌%◌, ◌^◌, ◌<◌, ◌&&◌, List, get_or, slice_index_or}
+use Rattle.std.specs.Prelude.{◌≡◌, ℕ, ◌+◌, ◌/◌, ◌%◌, ◌^◌, ◌<◌, ◌&&◌, List, get_or}
 use Rattle.receiver.specs.Cells.{no_survivor}
 use Rattle.receiver.specs.Grouped.{GroupsBest}
 use Rattle.reception.specs.Worth.{Scores, label_worth}
 use Rattle.survivors.specs.Best.{Survivor, Best}
 use Rattle.survivors.specs.Rows.{Enters, through, AloneBefore}
 use Rattle.trellis.specs.declared.Numbers.{Numbers}
-
--- The row whose first cell is at a place of the list.
-abbrev pub row_from : List Survivor → ℕ → ℕ → Survivor
-row_from cs at S = slice_index_or cs (at + S) no_survivor
 
 -- The survivor of a state, and the best label of a group behind it.
 abbrev pub continued : Survivor → Survivor → Survivor

@@ -1,5 +1,5 @@
 -- The refusal numbers of a receiver.
-use Rattle.std.specs.Prelude.{ℕ, ◌*◌, cond, List, length, Some, None, Option, ◌==◌, nat_le}
+use Rattle.std.specs.Prelude.{ℕ, ◌*◌, cond, List, length, Ok, Err, Result, ◌==◌, nat_le}
 use Rattle.reception.specs.Block.{capacity}
 use Rattle.reception.specs.Front.{FrontMeaning}
 use Rattle.reception.specs.Reading.{all_fit}
@@ -18,9 +18,9 @@ refusal_number Short = 10
 refusal_number NoPath = 24
 
 -- The number of a refusal, or 0 where there is none.
-abbrev pub number_or : Option Refusal → ℕ
-number_or None = 0
-number_or (Some e) = refusal_number e
+abbrev pub number_or : {T : Type 0} → Result T Refusal → ℕ
+number_or (Ok _) = 0
+number_or (Err e) = refusal_number e
 
 -- Why a reading is not taken into an open block with so many symbols; 0 where it is.
 abbrev pub take_refusal_at : ℕ → Numbers → ℕ → FrontMeaning → List ℕ → ℕ

@@ -25,12 +25,6 @@ Small ws = (i : ℕ) → slice_index ws i ≤ 1048575
 abbrev pub Holds : List ℕ → ℕ → Scores → ℕ → Type 0
 Holds ws phases s places = (a m : ℕ) → a < places → m < phases → entry_of ws a m ≡ s a m
 
--- Each phase of a symbol is below 16.
-abbrev pub Sixteen : List ℕ → Type 0
-Sixteen symbol = (a : ℕ) → slice_index symbol a < 16
-
--- The table `before` with the worths f 0, f 1, .. written from `start` on, so many of them. What stands behind them is not said.
-pub record Filled (ws before : List ℕ) (start many : ℕ) (f : ℕ → ℕ) : Type 0 where
-  pub written : (m : ℕ) → m < many → slice_index ws (start + m) ≡ f m
-  pub kept : (k : ℕ) → k < start → slice_index ws k ≡ slice_index before k
-  pub small : Small before → Small ws
+-- The first worths, so many, are f 0, f 1, .. and none is above that of a place.
+abbrev pub Filled : List ℕ → ℕ → (ℕ → ℕ) → Type 0
+Filled ws many f = (m : ℕ) → m < many → (slice_index ws m ≡ f m) × (f m ≤ 1048575)

@@ -6,10 +6,10 @@ ghost use Rattle.receiver.specs.Stands.{StandsBy};
 ghost use Rattle.reception.specs.Answer.{Answers};
 ghost use Rattle.reception.specs.Block.{Block, opens, takes, tells, delivers, after};
 
-use crate::cell::{Kept, begin_row};
+use crate::cell::{Cell, Kept, begin_row};
 use crate::extend::extend;
 use crate::finish::block_end;
-use crate::fitness::take_refusal;
+use crate::fitness::takeable;
 use crate::record::Progress;
 use crate::refusal::Refusal;
 use crate::sizes::{held, states_of, too_few};
@@ -42,34 +42,24 @@ pub fn take<K: Kept, F: Front<Score = K::Score>>(
     ensures answer { (b : Block) → StandsBy K.Kept.says cells.old progress.old b → Answers (length cells.old) b (takes (F.Front.meaning front.now) reading.now) (take_answer result) }
     ensures stands { (b : Block) → StandsBy K.Kept.says cells.old progress.old b → StandsBy K.Kept.says cells.new progress.new (after (length cells.old) b (takes (F.Front.meaning front.now) reading.now)) }
 {
-    let Some(code) = progress.code else {
-        return Err(Refusal::Closed);
-    };
+    let code = progress.open_code()?;
     let count = progress.count;
-    match take_refusal(code, cells.len(), count, front, reading) {
-        Some(refusal) => Err(refusal),
-        None => {
-            extend(code, front, reading, cells, count);
-            progress.count = count + 1;
-            Ok(())
-        }
-    }
+    let reading = takeable(code, cells.len(), count, front, reading)?;
+    extend(&reading, cells, count);
+    progress.count = count + 1;
+    Ok(())
 }
 
 // The count of symbols taken, the least score and the sole mark; before any symbol 0, nought and not sole.
 pub fn tell<K: Kept>(cells: &[K], progress: Progress) -> Result<(usize, K::Score, bool), Refusal>
     ensures { (b : Block) → StandsBy K.Kept.says cells.now progress b → Answers (length cells.now) b tells (tell_answer K.Score.Score.worth result) }
 {
-    let Some(code) = progress.code else {
-        return Err(Refusal::Closed);
-    };
+    let code = progress.open_code()?;
     if progress.count == 0 {
         return Ok((0, K::Score::nought(), false));
     }
-    match block_end(cells, code, progress.count) {
-        Some(end) => Ok((progress.count, end.score, end.sole)),
-        None => Ok((progress.count, K::Score::nought(), false)),
-    }
+    let end = block_end(cells, code, progress.count).unwrap_or(Cell::blank());
+    Ok((progress.count, end.score, end.sole))
 }
 
 // Writes the data words of the least path, from the second symbol on, and tells how many and the sole mark. The words
@@ -82,9 +72,7 @@ pub fn deliver<K: Kept>(
     ensures answer { (b : Block) → StandsBy K.Kept.says cells.now progress b → Answers (length cells.now) b (delivers (length words.old)) (deliver_answer result words.new) }
     ensures beyond { drop (written result) words.new ≡ drop (written result) words.old }
 {
-    let Some(code) = progress.code else {
-        return Err(Refusal::Closed);
-    };
+    let code = progress.open_code()?;
     let count = progress.count;
     if count < 2 {
         return Err(Refusal::Few);
@@ -92,11 +80,7 @@ pub fn deliver<K: Kept>(
     if words.len() < count - 1 {
         return Err(Refusal::Short);
     }
-    match block_end(cells, code, count) {
-        Some(end) => {
-            deliver_words(code, cells, count, end.label as usize, words);
-            Ok((count - 1, end.sole))
-        }
-        None => Err(Refusal::NoPath),
-    }
+    let end = block_end(cells, code, count).ok_or(Refusal::NoPath)?;
+    deliver_words(code, cells, count, usize::from(end.label), words);
+    Ok((count - 1, end.sole))
 }

@@ -1,5 +1,5 @@
 // The memory of a receiver.
-ghost use Rattle.std.specs.Prelude.{◌≡◌, ℕ, ◌<◌, ◌≤◌, length, slice_index_or, slice_set};
+ghost use Rattle.std.specs.Prelude.{◌≡◌, ℕ, ◌+◌, ◌*◌, ◌<◌, ◌≤◌, length, take, drop, slice_index_or, slice_set};
 ghost use Rattle.receiver.specs.Cells.{survivor, survivors, no_survivor, empty_path};
 ghost use Rattle.survivors.specs.Best.{Survivor};
 
@@ -7,7 +7,7 @@ use fronts::Score;
 
 // One cell: the survivor of one state after one symbol. Its score is that of the best path that ends there, the label is
 // the last of that path, and `sole` says that no other path that ends there has its worth.
-#[derive(Clone, Copy)]
+#[derive(Clone, Copy, Debug, PartialEq, Eq)]
 pub struct Cell<S> {
     pub score: S,
     pub label: u16,
@@ -15,7 +15,7 @@ pub struct Cell<S> {
 }
 
 impl<S: Score> Cell<S> {
-    // A cell that says nothing, to make memory of.
+    // A cell that says nothing, to make memory of. `Score` asks for no `Default`, so that this is none either.
     pub fn blank() -> Cell<S>
         ensures { survivor S.Score.worth result ≡ no_survivor }
     {
@@ -27,7 +27,8 @@ impl<S: Score> Cell<S> {
     }
 }
 
-// A cell as it is kept in the memory that a caller lends: a `Cell` itself, or a struct of the caller's language.
+// A cell as it is kept in the memory that a caller lends: a `Cell` itself, or a struct of the caller's language. Two methods and
+// no `From` and `Into`, which would each need a law that ties them to `says`.
 pub trait Kept: Copy {
     type Score: Score;
 
@@ -59,6 +60,15 @@ impl<S: Score> Kept for Cell<S> {
     }
 }
 
+// Row t of the cells, with so many states a row.
+pub(crate) fn row_at<K>(cells: &[K], states: usize, t: usize) -> &[K]
+    requires { t * states + states ≤ length cells.now }
+    ensures { result.now ≡ take states (drop (t * states) cells.now) }
+{
+    let start = t * states;
+    &cells[start..start + states]
+}
+
 // Reads one cell.
 pub(crate) fn cell_at<K: Kept>(cells: &[K], i: usize) -> Cell<K::Score>
     requires { i < length cells.now }
@@ -67,25 +77,18 @@ pub(crate) fn cell_at<K: Kept>(cells: &[K], i: usize) -> Cell<K::Score>
     cells[i].cell()
 }
 
-// Writes one cell.
-pub(crate) fn put<K: Kept>(cells: &mut [K], i: usize, cell: Cell<K::Score>)
-    requires { i < length cells.old }
-    ensures { survivors K.Kept.says cells.new ≡ slice_set (survivors K.Kept.says cells.old) i (survivor K.Score.Score.worth cell) }
-{
-    cells[i] = K::keep(cell);
-}
-
 // Writes the first row: before any symbol each state has the empty path.
 pub(crate) fn begin_row<K: Kept>(cells: &mut [K], states: usize)
     requires { states ≤ length cells.old }
     ensures { (E : ℕ) → E < states → slice_index_or (survivors K.Kept.says cells.new) E no_survivor ≡ empty_path }
 {
-    for state in 0..states {
-        let empty = Cell {
-            score: K::Score::nought(),
-            label: 0,
-            sole: true,
-        };
-        put(cells, state, empty);
+    let empty = Cell {
+        score: K::Score::nought(),
+        label: 0,
+        sole: true,
+    };
+    // No `fill`: it asks that `clone` cannot fail, which `Copy` of a type parameter does not say.
+    for kept in &mut cells[..states] {
+        *kept = K::keep(empty);
     }
 }

@@ -2,6 +2,7 @@
 
 #![tactic(auto)]
 
+mod better;
 mod calls;
 mod cell;
 mod entering;
@@ -10,6 +11,7 @@ mod finish;
 mod fitness;
 mod group;
 mod methods;
+mod reading;
 mod record;
 mod refusal;
 mod sizes;
@@ -20,3 +22,4 @@ pub use calls::{deliver, open, take, tell};
 pub use cell::{Cell, Kept};
 pub use record::{Progress, Receiver};
 pub use refusal::Refusal;
+pub use sizes::too_few;

@@ -1,4 +1,5 @@
-// The calls of a receiver that holds its cells.
+// The calls of a receiver that holds its cells. Each is the function of its name in calls.rt, which stays beside it for callers
+// that keep cells and progress apart, as one in C has to.
 ghost use Rattle.std.specs.Prelude.{◌≡◌, length, drop};
 ghost use Rattle.receiver.specs.Results.{open_answer, take_answer, tell_answer, deliver_answer, written};
 ghost use Rattle.receiver.specs.Stands.{Stands};
@@ -23,10 +24,7 @@ impl<'a, K: Kept> Receiver<'a, K> {
     {
         Receiver {
             cells,
-            progress: Progress {
-                code: None,
-                count: 0,
-            },
+            progress: Progress::default(),
         }
     }
 

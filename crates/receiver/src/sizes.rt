@@ -6,7 +6,7 @@ ghost use Rattle.trellis.specs.Numbers.{label_bits};
 use code::Code;
 
 // How many labels there are.
-pub(crate) fn labels_of(code: Code) -> u32
+pub(crate) fn labels_of(code: Code) -> usize
     ensures value { result ≡ 2 ^ label_bits code.numbers }
     ensures most { result ≤ 65536 }
 {
@@ -38,7 +38,7 @@ pub(crate) fn held(cells: usize, code: Code) -> usize
 }
 
 // Whether the cells are too few to open the code.
-pub(crate) fn too_few(cells: usize, code: Code) -> bool
+pub fn too_few(cells: usize, code: Code) -> bool
     ensures { result ≡ nat_lt cells (2 ^ code.numbers.memory * (code.numbers.memory + 2)) }
 {
     cells < states_of(code) * (code.numbers.memory as usize + 2)

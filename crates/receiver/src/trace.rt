@@ -4,7 +4,7 @@ ghost use Rattle.receiver.specs.Cells.{survivors, row_of};
 ghost use Rattle.receiver.specs.Delivery.{Writes};
 ghost use Rattle.survivors.specs.Rows.{back};
 
-use crate::cell::{Kept, cell_at};
+use crate::cell::{Kept, cell_at, row_at};
 use crate::sizes::states_of;
 use code::{Code, Label, Word};
 
@@ -42,7 +42,7 @@ fn label_at<K: Kept>(cells: &[K], states: usize, t: usize, state: usize) -> Labe
     requires row { t * states + states ≤ length cells.now }
     ensures { result.0 ≡ (row_of (survivors K.Kept.says cells.now) states t state).label }
 {
-    Label(cell_at(cells, t * states + state).label)
+    Label(cell_at(row_at(cells, states, t), state).label)
 }
 
 // The state from which the label leads to this one; state 0 where that is none of the code's.

@@ -1,37 +1,41 @@
-use Rattle.std.proofs.Common.{◌+◌, arith}
-use Rattle.receiver.specs.Cells.{survivors}
-use Rattle.receiver.specs.Entered.{row_from}
+use Rattle.std.proofs.Common.{◌≡◌, ◌+◌, List, get_or, ap, ◌∙◌, arith}
+use Rattle.receiver.specs.Cells.{survivors, row_in}
+use Rattle.receiver.specs.declared.entering.Way.{Way}
 use Rattle.receiver.proofs.Pairs.{pairs_one, pairs_more, pairs_all}
-use Rattle.receiver.proofs.Ways.{pairs_are, way_best}
+use Rattle.receiver.proofs.Ways.{pairs_are, way_best, length-others, other_at}
 use Rattle.receiver.proofs.entering.entering.Goals as goal
 
-pub by_way-found-requires : goal.by_way-found-requires
-by_way-found-requires g c = let some = c.requires.some in record { step = c.requires.step; cells = c.requires.cells 0 c.index-ways-0.result (omega arith) c.index-ways-0.is }
-
-pub by_way-requires : goal.by_way-requires
-by_way-requires g c = record { step = c.requires.step; cells = c.requires.cells c.loop-pair.pair c.index-ways-pair.result c.loop-pair-test.true c.index-ways-pair.is }
-
-pub loop-pair-init : goal.loop-pair-init
-loop-pair-init g c =
-    let row = row_from (survivors g.K.Kept.says c.args.cells.now) c.args.at in
+pub loop-way-init : goal.loop-way-init
+loop-way-init g c =
+    let row = row_in (survivors g.K.Kept.says c.args.row.now) in
+    let ways = c.args.ways.now in
+    let w = c.index-all-0.result in
     let some = c.requires.some in
+    let is : w ≡ get_or ways 0 w = c.index-all-0.is ∙ ap (λ (ws : List (Way g.row.K-Score.Denot)). get_or ws 0 w) c.as_slice-all.ensures in
     λ k bs first known small s groups exact.
     pairs_one k.numbers s row (first + c.args.step) _
-    (way_best k s row bs g.K.Score.Score.worth first c.args.step g.row.N 0 c.args.ways.now c.index-ways-0.result _ known small (omega arith) c.index-ways-0.is groups exact c.by_way-found.ensures)
+    (way_best k s row bs g.K.Score.Score.worth first c.args.step 0 ways w _ known small (omega (arith, c.type_inv.ways)) is groups exact c.path-best.ensures)
 
-pub loop-pair-preserved : goal.loop-pair-preserved
-loop-pair-preserved g c =
-    let row = row_from (survivors g.K.Kept.says c.args.cells.now) c.args.at in
-    let pair = c.loop-pair.pair in
+pub loop-way-preserved : goal.loop-way-preserved
+loop-way-preserved g c =
+    let row = row_in (survivors g.K.Kept.says c.args.row.now) in
+    let ways = c.args.ways.now in
+    let all = c.as_slice-all.result.now in
+    let i = c.loop-way.way-index in
+    let w = c.way-item.result in
+    let more = c.loop-way-test.true in
+    let long = length-others ways all c.as_slice-all.ensures in
+    let is = other_at ways all c.as_slice-all.ensures i w more c.way-item.is in
     λ k bs first known small s groups exact.
-    pairs_more k.numbers s row (first + c.args.step) pair _ _ _ c.better-found.ensures (c.loop-pair.invariant k bs first known small s groups exact)
-    (way_best k s row bs g.K.Score.Score.worth first c.args.step g.row.N pair c.args.ways.now c.index-ways-pair.result _ known small c.loop-pair-test.true c.index-ways-pair.is groups exact c.by_way.ensures)
+    pairs_more k.numbers s row (first + c.args.step) (i + 1) _ _ _ c.better-best.ensures (c.loop-way.invariant k bs first known small s groups exact)
+    (way_best k s row bs g.K.Score.Score.worth first c.args.step (i + 1) ways w _ known small (omega arith) is groups exact c.path.ensures)
 
 pub returns : goal.returns
 returns g c =
-    let row = row_from (survivors g.K.Kept.says c.args.cells.now) c.args.at in
-    let left = c.loop-pair-test.false in
+    let row = row_in (survivors g.K.Kept.says c.args.row.now) in
+    let past = c.loop-way-test.false in
+    let long = length-others c.args.ways.now c.as_slice-all.result.now c.as_slice-all.ensures in
     λ k bs first known small s groups exact.
     let even = pairs_are k.numbers.checked in
     let all = known.pairs in
-    pairs_all k.numbers s row (first + c.args.step) c.loop-pair.pair _ (omega arith) (c.loop-pair.invariant k bs first known small s groups exact)
+    pairs_all k.numbers s row (first + c.args.step) (c.loop-way.way-index + 1) _ (omega arith) (c.loop-way.invariant k bs first known small s groups exact)

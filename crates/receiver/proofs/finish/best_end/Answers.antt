@@ -1,22 +1,23 @@
-use Rattle.std.proofs.Common.{◌≡◌, length, ◌∙◌, arith}
-use Rattle.std.proofs.lemmas.List.{length-map}
-use Rattle.receiver.specs.Cells.{survivors}
-use Rattle.receiver.proofs.Ending.{best_first, best_more, best_all}
+use Rattle.std.proofs.Common.{◌+◌, List, get_or, ap, sym, arith}
+use Rattle.receiver.proofs.Ending.{best_first, best_more, read_behind, best_all}
 use Rattle.receiver.proofs.finish.best_end.Goals as goal
 
-pub loop-state-init : goal.loop-state-init
-loop-state-init g c =
-    best_first (survivors g.K.Kept.says c.args.row.now) _ _ c.cell_at.ensures c.end_at-best.ensures
+pub loop-place-init : goal.loop-place-init
+loop-place-init g c =
+    let is = c.in_ok-first.ensures.cases.0 in let long = c.in_ok-first.ensures.cases.1 in
+    best_first g.K.Kept.says c.args.row.now c.in_ok-first.first.now _ (omega arith) (ap (λ (xs : List g.row.K.Denot). get_or xs 0 c.in_ok-first.first.now) (sym is)) c.end_at-best.ensures
 
-pub loop-state-preserved : goal.loop-state-preserved
-loop-state-preserved g c =
-    best_more (survivors g.K.Kept.says c.args.row.now) c.loop-state.state _ _ _ _ c.cell_at-in-loop-state.ensures c.end_at.ensures c.better_end-best.ensures c.loop-state.invariant
+pub loop-place-preserved : goal.loop-place-preserved
+loop-place-preserved g c =
+    let is = c.in_ok-first.ensures.cases.0 in let long = c.in_ok-first.ensures.cases.1 in
+    let more = c.loop-place-test.true in
+    best_more g.K.Kept.says c.args.row.now (c.loop-place.place + 1) c.index-others-place.result _ _ _ (omega arith)
+    (read_behind g.K.Kept.says c.args.row.now c.in_ok-first.first.now c.in_ok-first.others.now c.loop-place.place c.index-others-place.result is c.index-others-place.is)
+    c.end_at.ensures c.better-best.ensures c.loop-place.invariant
 
 pub returns : goal.returns
 returns g c =
-    let long = length-map c.args.row.now g.K.Kept.says in
-    let all : c.loop-state.state ≡ length (survivors g.K.Kept.says c.args.row.now) = omega (arith, c.loop-state.auto.state-end (omega arith)) in
-    best_all (survivors g.K.Kept.says c.args.row.now) c.loop-state.state _ all c.loop-state.invariant
-
-pub returns-then-row-eq0 : goal.returns-then-row-eq0
-returns-then-row-eq0 g c = length-map c.args.row.now g.K.Kept.says ∙ c.if-row-eq0.true
+    let is = c.in_ok-first.ensures.cases.0 in let long = c.in_ok-first.ensures.cases.1 in
+    let past = c.loop-place-test.false in
+    let most = c.loop-place.auto.place-end in
+    best_all g.K.Kept.says c.args.row.now (c.loop-place.place + 1) _ (omega arith) c.loop-place.invariant

@@ -1,6 +1,5 @@
-use Rattle.std.proofs.Common.{refl}
 use Rattle.reception.proofs.CleanBurstsHold.{clean_bursts}
 use Rattle.receiver.proofs.record.Receiver.new.Goals as goal
 
-pub returns : goal.returns
-returns g c = record { cells = refl; stands = refl; clean = clean_bursts }
+pub returns-clause-clean : goal.returns-clause-clean
+returns-clause-clean g c = clean_bursts
