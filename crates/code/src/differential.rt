@@ -53,7 +53,8 @@ fn lowest(number: u16) -> u32
     (number % 2) as u32
 }
 
-// The number that the label bits form whose rows turn by `least` or more.
+// The number that the label bits form whose rows turn by `least` or more. One bit of the label goes with each row, here and
+// below; as a shift by the row's index it would be no plainer.
 fn gathered(rows: &[Row], least: u8, label: u16) -> u32
     requires { length rows.now ≤ 16 }
     ensures { result ≡ gather (turns_by least) rows.now label }

@@ -10,7 +10,8 @@ use trellis::Numbers;
 
 impl Code {
     // The code of these numbers; the first flaw otherwise: limits from the left, then polynomials from the left,
-    // then the parity bit.
+    // then the parity bit. Inlined, so that the code is taken apart where it is used.
+    #[inline(always)]
     pub fn new(numbers: Numbers) -> Result<Code, Flaw>
         ensures { numbers_of result ≡ judged numbers }
     {
@@ -28,6 +29,8 @@ impl Flaw {
     }
 }
 
+// One copy for all that make codes.
+#[inline(never)]
 fn judge(numbers: Numbers) -> Result<(), Flaw>
     ensures { result ≡ found (judged numbers) }
 {

@@ -71,7 +71,8 @@ fn alone(phase: u8) -> [u8; 4]
     [phase, 0, 0, 0]
 }
 
-// The rows that the label picks, joined by exclusive or: the turns, and the patterns of all places in one number.
+// The rows that the label picks, joined by exclusive or: the turns, and the patterns of all places in one number. One bit of
+// the label goes with each row; as a shift by the row's index it would be no plainer.
 #[tactic(auto, using(crate::proofs::Joined::picks))]
 fn joined(rows: &[Row], label: u16) -> (u32, u32)
     ensures turn { result.0 ≡ picked (λ x. x.turn) rows.now label }

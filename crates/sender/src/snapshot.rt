@@ -1,4 +1,5 @@
-// A burst set down and taken up again. Any numbers may be taken up: what is sent then is the definition's at them.
+// A burst set down and taken up again. Any numbers may be taken up: what is sent then is the definition's at them. Each is a
+// method with a name, since `into` would not show that a burst goes on.
 ghost use Rattle.std.specs.Prelude.{◌≡◌};
 ghost use Rattle.sender.specs.Sender.{standing, set_down};
 
