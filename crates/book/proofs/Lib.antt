@@ -1,2 +1,2 @@
-mod Cut
-mod Entries
+mod Lines
+mod Lookup

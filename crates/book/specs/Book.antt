@@ -1,13 +1,14 @@
 -- A book's text and the codes that it gives.
-use Rattle.std.specs.Prelude.{ℕ, zero, suc, cond, List, [], ◌∷◌, ◌++◌, length, take, drop, Some, None, Ok, Err, codes, Option, Result, nat_lt}
+use Rattle.std.specs.Prelude.{ℕ, zero, suc, cond, List, [], ◌∷◌, ◌++◌, map, length, take, drop, Some, None, Ok, Err, codes, Option, Result, nat_lt}
 use Rattle.std.specs.Result.{result_map_both}
 use Rattle.std.specs.Str.{bytes_eq}
+use Rattle.arrayvec.specs.ArrayVec.{ArrayVec}
 use Rattle.trellis.specs.declared.Numbers.{Numbers}
 use Rattle.book.specs.declared.fault.Fault.{Fault}
 use Rattle.book.specs.declared.fault.Fault.TheVariants.{Names, TooManyCodes, TooLong}
 use Rattle.book.specs.declared.record.Book.{Book}
-use Rattle.book.specs.Codes.{first_codes}
-use Rattle.book.specs.Line.{code_line, unchanged}
+use Rattle.book.specs.declared.entry.Entry.{Entry}
+use Rattle.book.specs.Line.{code_line, numbers_at, unchanged}
 use Rattle.book.specs.Reading.{Reading}
 
 -- The first line, with its line feed.
@@ -31,9 +32,13 @@ book_of text =
     cond (nat_lt 4096 (length text)) (Err TooLong)
     (cond (bytes_eq (take (length names) text) names) (code_lines 32 2 (drop (length names) text)) (Err Names))
 
+-- The codes of entries, in order.
+abbrev pub codes_held : ArrayVec Entry → List Numbers
+codes_held entries = map numbers_at entries.items
+
 -- The codes of a book, in order.
 abbrev pub codes_of : Book → List Numbers
-codes_of book = first_codes book.count book.codes
+codes_of book = codes_held book.entries
 
 -- The code at an entry, counted from 0; past the last there is none.
 abbrev pub entry_of : List Numbers → ℕ → Option Numbers

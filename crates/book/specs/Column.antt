@@ -1,6 +1,9 @@
 -- The columns of a line and what may stand in them. Bytes are numbers: the digit 0 is 48, the dash 45, the space 32 and
 -- the line feed 10.
-use Rattle.std.specs.Prelude.{ℕ, zero, suc, ◌+◌, Bool, cond, ◌&&◌, List, [], ◌∷◌, take, drop, Ok, Err, ◌==◌, nat_eq, nat_le, nat_lt}
+use Rattle.std.specs.Prelude.{◌≡◌, ℕ, zero, suc, ◌+◌, Bool, cond, ◌&&◌, List, take, drop, Ok, Err, ◌==◌, nat_eq, nat_le, nat_lt}
+use Rattle.std.specs.Borrow.{Bor}
+use Rattle.std.specs.Fn.{Mut, CalledAt}
+use Rattle.std.specs.List.{prefix_len}
 use Rattle.book.specs.declared.fault.Fault.TheVariants.{Shape}
 use Rattle.book.specs.Reading.{Reading, next}
 
@@ -19,9 +22,11 @@ pub data Column : Type 0 where
 
 -- How many of the first `most` bytes pass the test, up to the first that does not.
 abbrev pub run : (ℕ → Bool) → ℕ → List ℕ → ℕ
-run test zero bytes = 0
-run test (suc most) [] = 0
-run test (suc most) (b ∷ bytes) = cond (test b) (suc (run test most bytes)) 0
+run test most bytes = prefix_len test (take most bytes)
+
+-- Every call of the closure answers what the test says of the byte, and leaves the closure as it was.
+abbrev pub AnswersAs : {F : Type 0} → Mut F (Bor ℕ × Unit {0}) Bool → F → (ℕ → Bool) → Type 0
+AnswersAs {F} calls closure test = (b : ℕ) (answer : Bool) (left : F) → CalledAt calls closure b answer left → (left ≡ closure) × (answer ≡ test b)
 
 -- The byte is one of the first `base` digits.
 abbrev pub is_digit : ℕ → ℕ → Bool

@@ -4,5 +4,4 @@ pub mod Column
 pub mod Token
 pub mod Value
 pub mod Line
-pub mod Codes
 pub mod Book

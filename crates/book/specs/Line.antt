@@ -8,12 +8,13 @@ use Rattle.code.specs.declared.flaw.Flaw.{Flaw}
 use Rattle.code.specs.declared.flaw.Flaw.TheVariants as flaw
 use Rattle.code.specs.declared.record.Code.{Code}
 use Rattle.book.specs.declared.fault.Fault.{Fault}
+use Rattle.book.specs.declared.entry.Entry.{Entry}
 use Rattle.book.specs.declared.fault.Fault.TheVariants.{Limit, Polynomial, Parity}
 use Rattle.book.specs.Column.{column, line_end}
 use Rattle.book.specs.Reading.{Reading, next}
 use Rattle.book.specs.Value.{small, polynomial}
 
--- Numbers as they are, a fault as it is, and the numbers of a code.
+-- Numbers as they are, a fault as it is, and the numbers of a code and of an entry.
 abbrev pub itself : Numbers → Numbers
 itself n = n
 
@@ -22,6 +23,9 @@ unchanged fault = fault
 
 abbrev pub numbers_in : Code → Numbers
 numbers_in code = code.numbers
+
+abbrev pub numbers_at : Entry → Numbers
+numbers_at entry = entry.code.numbers
 
 -- The numbers of columns 1 to 5; the polynomials are yet to be read.
 unfoldable pub decimal_columns : ℕ → List ℕ → Reading Numbers

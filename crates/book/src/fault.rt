@@ -2,7 +2,7 @@
 ghost use Rattle.std.specs.Prelude.{◌≡◌};
 ghost use Rattle.book.specs.Fault.{fault_number, fault_line, fault_column};
 
-#[derive(Clone, Copy)]
+#[derive(Clone, Copy, Debug, PartialEq, Eq)]
 pub enum Fault {
     // The line leaves its shape while this column is read.
     Shape { line: u8, column: u8 },
@@ -30,8 +30,7 @@ impl Fault {
             Fault::Limit { .. } => 3,
             Fault::Polynomial { .. } => 4,
             Fault::Parity { .. } => 5,
-            Fault::TooManyCodes => 6,
-            Fault::TooLong => 6,
+            Fault::TooManyCodes | Fault::TooLong => 6,
         }
     }
 
@@ -40,11 +39,11 @@ impl Fault {
         ensures { result ≡ fault_line self }
     {
         match self {
-            Fault::Shape { line, .. } => line,
+            Fault::Shape { line, .. }
+            | Fault::Limit { line, .. }
+            | Fault::Polynomial { line, .. }
+            | Fault::Parity { line } => line,
             Fault::Names => 1,
-            Fault::Limit { line, .. } => line,
-            Fault::Polynomial { line, .. } => line,
-            Fault::Parity { line } => line,
             Fault::TooManyCodes => 34,
             Fault::TooLong => 0,
         }
@@ -55,9 +54,9 @@ impl Fault {
         ensures { result ≡ fault_column self }
     {
         match self {
-            Fault::Shape { column, .. } => column,
-            Fault::Limit { column, .. } => column,
-            Fault::Polynomial { column, .. } => column,
+            Fault::Shape { column, .. }
+            | Fault::Limit { column, .. }
+            | Fault::Polynomial { column, .. } => column,
             _ => 0,
         }
     }

@@ -2,14 +2,15 @@
 
 #![tactic(auto)]
 
-mod columns;
+mod entry;
 mod fault;
 mod line;
 mod load;
-mod lookup;
+mod reader;
 mod record;
 mod token;
 mod values;
 
+pub use entry::Entry;
 pub use fault::Fault;
 pub use record::Book;

@@ -1,34 +1,88 @@
 // The line reader: nine columns and the line's end, and the code of their numbers.
-ghost use Rattle.std.specs.Prelude.{◌≡◌};
+ghost use Rattle.std.specs.Prelude.{◌≡◌, ◌+◌, ◌<◌, OnOk};
 ghost use Rattle.std.specs.Result.{result_map_both};
 ghost use Rattle.code.specs.Flaw.{judged};
-ghost use Rattle.book.specs.Line.{decimal_columns, polynomial_columns, line_numbers, itself, numbers_in, unchanged, at_line};
-ghost use Rattle.book.specs.Reading.{seen};
+ghost use Rattle.book.specs.Line.{decimal_columns, polynomial_columns, line_numbers, code_line, itself, numbers_in, unchanged, at_line};
+ghost use Rattle.book.specs.Reading.{read, Reads};
 
-use crate::columns::{column, line_end};
 use crate::fault::Fault;
+use crate::reader::Reader;
 use crate::values::{polynomial, small};
 use code::{Code, Flaw};
 use trellis::Numbers;
 
-// The numbers of one line, and the text after the line.
-pub(crate) fn line_numbers<'a>(text: &'a [u8], line: u8) -> Result<(Numbers, &'a [u8]), Fault>
-    ensures { seen itself result ≡ line_numbers line text.now }
-{
-    let (numbers, rest) = decimal_columns(text, line)?;
-    polynomial_columns(numbers, rest, line)
-}
+impl<'a> Reader<'a> {
+    // The code of a line. The reader goes on to the next line.
+    #[tactic(auto, unfolding(crate::specs::Line::code_line))]
+    pub(crate) fn code(&mut self) -> Result<Code, Fault>
+        requires { self.old.line < 255 }
+        ensures value { read numbers_in result self.new ≡ code_line self.old.line self.old.rest.now }
+        ensures line { OnOk result (self.new.line ≡ self.old.line + 1) }
+    {
+        let numbers = self.numbers()?;
+        let code = code_at(numbers, self.line)?;
+        self.line += 1;
+        Ok(code)
+    }
 
-// The code of a line's numbers.
-pub(crate) fn code_at(numbers: Numbers, line: u8) -> Result<Code, Fault>
-    ensures { result_map_both numbers_in unchanged result ≡ result_map_both itself (at_line line) (judged numbers) }
-{
-    match Code::new(numbers) {
-        Ok(code) => Ok(code),
-        Err(flaw) => Err(at_line(flaw, line)),
+    fn numbers(&mut self) -> Result<Numbers, Fault>
+        ensures { Reads self.old itself result self.new (line_numbers self.old.line self.old.rest.now) }
+    {
+        let numbers = self.decimal_columns()?;
+        self.polynomial_columns(numbers)
+    }
+
+    // Columns 1 to 5; the polynomials are yet to be read.
+    #[tactic(auto, unfolding(crate::specs::Line::decimal_columns))]
+    fn decimal_columns(&mut self) -> Result<Numbers, Fault>
+        ensures { Reads self.old itself result self.new (decimal_columns self.old.line self.old.rest.now) }
+    {
+        let l = self.column(1)?;
+        let m = self.column(2)?;
+        let q = self.column(3)?;
+        let c = self.column(4)?;
+        let v = self.column(5)?;
+        Ok(Numbers {
+            places: small(l),
+            phases: small(m),
+            offset: small(q),
+            checked: small(c),
+            memory: small(v),
+            h0: 0,
+            h1: 0,
+            h2: None,
+            h3: None,
+        })
+    }
+
+    // Columns 6 to 9 and the line's end, put to the numbers of the columns before.
+    #[tactic(auto, unfolding(crate::specs::Line::polynomial_columns))]
+    fn polynomial_columns(&mut self, numbers: Numbers) -> Result<Numbers, Fault>
+        ensures { Reads self.old itself result self.new (polynomial_columns self.old.line numbers self.old.rest.now) }
+    {
+        let h0 = self.column(6)?;
+        let h1 = self.column(7)?;
+        let h2 = self.column(8)?;
+        let h3 = self.column(9)?;
+        self.line_end()?;
+        Ok(Numbers {
+            h0: polynomial(h0).unwrap_or(0),
+            h1: polynomial(h1).unwrap_or(0),
+            h2: polynomial(h2),
+            h3: polynomial(h3),
+            ..numbers
+        })
     }
 }
 
+// The code of a line's numbers.
+fn code_at(numbers: Numbers, line: u8) -> Result<Code, Fault>
+    ensures { result_map_both numbers_in unchanged result ≡ result_map_both itself (at_line line) (judged numbers) }
+{
+    Code::new(numbers).map_err(|flaw| at_line(flaw, line))
+}
+
+// No `From`, since the flaw does not know its line.
 fn at_line(flaw: Flaw, line: u8) -> Fault
     ensures { result ≡ at_line line flaw }
 {
@@ -37,56 +91,4 @@ fn at_line(flaw: Flaw, line: u8) -> Fault
         Flaw::Polynomial(column) => Fault::Polynomial { line, column },
         Flaw::Parity => Fault::Parity { line },
     }
-}
-
-// Columns 1 to 5; the polynomials are yet to be read.
-fn decimal_columns<'a>(text: &'a [u8], line: u8) -> Result<(Numbers, &'a [u8]), Fault>
-    ensures { seen itself result ≡ decimal_columns line text.now }
-{
-    let (l, rest) = column(text, line, 1)?;
-    let (m, rest) = column(rest, line, 2)?;
-    let (q, rest) = column(rest, line, 3)?;
-    let (c, rest) = column(rest, line, 4)?;
-    let (v, rest) = column(rest, line, 5)?;
-    let numbers = Numbers {
-        places: small(l),
-        phases: small(m),
-        offset: small(q),
-        checked: small(c),
-        memory: small(v),
-        h0: 0,
-        h1: 0,
-        h2: None,
-        h3: None,
-    };
-    Ok((numbers, rest))
-}
-
-// Columns 6 to 9 and the line's end, put to the numbers of the columns before.
-fn polynomial_columns<'a>(
-    numbers: Numbers,
-    text: &'a [u8],
-    line: u8,
-) -> Result<(Numbers, &'a [u8]), Fault>
-    ensures { seen itself result ≡ polynomial_columns line numbers text.now }
-{
-    let (h0, rest) = column(text, line, 6)?;
-    let (h1, rest) = column(rest, line, 7)?;
-    let (h2, rest) = column(rest, line, 8)?;
-    let (h3, rest) = column(rest, line, 9)?;
-    let (_, rest) = line_end(rest, line)?;
-    let h0 = polynomial(h0).unwrap_or(0);
-    let h1 = polynomial(h1).unwrap_or(0);
-    let h2 = polynomial(h2);
-    let h3 = polynomial(h3);
-    Ok((
-        Numbers {
-            h0,
-            h1,
-            h2,
-            h3,
-            ..numbers
-        },
-        rest,
-    ))
 }

@@ -1,85 +1,56 @@
-// Books made: an empty one, and one loaded from a text.
-ghost use Rattle.std.specs.Prelude.{◌≡◌, ◌≤◌, [], length, IfOk};
+// Books loaded from a text.
+ghost use Rattle.std.specs.Prelude.{◌≡◌, [], length};
 ghost use Rattle.std.specs.Result.{result_map_both, result_unwrap_or};
-ghost use Rattle.book.specs.Book.{codes_of, code_lines, book_of};
-ghost use Rattle.book.specs.Codes.{first_codes, filled};
+ghost use Rattle.book.specs.Book.{codes_of, codes_held, code_lines, book_of};
 ghost use Rattle.book.specs.Line.{unchanged};
 
+use crate::entry::Entry;
 use crate::fault::Fault;
-use crate::line::{code_at, line_numbers};
+use crate::reader::Reader;
 use crate::record::Book;
-use code::Code;
-use trellis::Numbers;
-
-// What an unused entry holds.
-const UNUSED: Numbers = Numbers {
-    places: 1,
-    phases: 4,
-    offset: 0,
-    checked: 1,
-    memory: 1,
-    h0: 3,
-    h1: 1,
-    h2: None,
-    h3: None,
-};
+use arrayvec::ArrayVec;
 
 impl Book {
-    pub fn new() -> Book
-        ensures { codes_of result ≡ [] }
-    {
-        let unused = Code { numbers: UNUSED };
-        Book {
-            codes: [unused; 32],
-            count: 0,
-        }
-    }
-
     // Takes the codes of the text and answers how many there are. After a fault the book is empty.
     pub fn load(&mut self, text: &[u8]) -> Result<usize, Fault>
         ensures codes { codes_of self.new ≡ result_unwrap_or (book_of text.now) [] }
         ensures answer { result ≡ result_map_both length unchanged (book_of text.now) }
     {
-        self.count = 0;
-        let count = fill(&mut self.codes, text)?;
-        self.count = count;
-        Ok(count)
+        self.entries.clear();
+        self.entries = entries_of(text)?;
+        Ok(self.entries.len())
     }
 }
 
-// Fills the codes of the text in, and answers how many there are.
-fn fill(codes: &mut [Code; 32], text: &[u8]) -> Result<usize, Fault>
-    ensures codes { first_codes (result_unwrap_or result 0) codes.new ≡ result_unwrap_or (book_of text.now) [] }
-    ensures answer { result ≡ result_map_both length unchanged (book_of text.now) }
-    ensures most { result_unwrap_or result 0 ≤ 32 }
-    ensures counted { length (first_codes (result_unwrap_or result 0) codes.new) ≡ result_unwrap_or result 0 }
+// The entries of a text.
+#[tactic(auto, unfolding(crate::specs::Book::book_of))]
+fn entries_of(text: &[u8]) -> Result<ArrayVec<Entry, 32>, Fault>
+    ensures { result_map_both codes_held unchanged result ≡ book_of text.now }
 {
     if text.len() > 4096 {
         return Err(Fault::TooLong);
     }
     match text.strip_prefix(b"l m q c v h0 h1 h2 h3\n") {
-        Some(lines) => fill_lines(codes, lines),
+        Some(lines) => code_lines(lines),
         None => Err(Fault::Names),
     }
 }
 
-// The same of the lines after the first.
-fn fill_lines(codes: &mut [Code; 32], text: &[u8]) -> Result<usize, Fault>
-    ensures answer { filled codes.new result ≡ code_lines 32 2 text.now }
-    ensures within { IfOk result (λ count. count ≤ 32) }
+// The entries of the lines after the first.
+fn code_lines(text: &[u8]) -> Result<ArrayVec<Entry, 32>, Fault>
+    ensures { result_map_both codes_held unchanged result ≡ code_lines 32 2 text.now }
 {
-    let mut count = 0;
-    let mut rest = text;
-    while !rest.is_empty() {
-        if count == 32 {
+    let mut entries = ArrayVec::new();
+    let mut reader = Reader {
+        rest: text,
+        line: 2,
+    };
+    while !reader.rest.is_empty() {
+        if entries.is_full() {
             return Err(Fault::TooManyCodes);
         }
-        let line = count as u8 + 2;
-        let (numbers, after) = line_numbers(rest, line)?;
-        let code = code_at(numbers, line)?;
-        codes[count] = code;
-        count += 1;
-        rest = after;
+        let code = reader.code()?;
+        entries.push(Entry { code });
     }
-    Ok(count)
+    Ok(entries)
 }

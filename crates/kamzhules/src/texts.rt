@@ -63,7 +63,7 @@ pub extern "C" fn kz_steps(text: &[u8], buffer: &mut [u8]) -> usize
     ensures length { result ≡ length (listing_of text.now) }
     ensures buffer { buffer.new ≡ fitted (listing_of text.now) buffer.old }
 {
-    let lines = listing(text);
+    let (Ok(lines) | Err(lines)) = listing(text);
     fit(lines.as_bytes(), buffer)
 }
 

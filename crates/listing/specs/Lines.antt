@@ -1,13 +1,17 @@
 -- What lines hold, and what writing adds to them.
-use Rattle.std.specs.Prelude.{◌≡◌, ℕ, ◌+◌, ◌≤◌, List, ◌++◌, take}
+use Rattle.std.specs.Prelude.{◌≡◌, ℕ, ◌+◌, ◌≤◌, List, ◌++◌, length, Ok, Err, Result}
 use Rattle.listing.specs.declared.lines.Lines.{Lines}
 
 -- The bytes that are written.
 abbrev pub written : Lines → List ℕ
-written lines = take lines.len lines.bytes
+written lines = lines.text.bytes
 
--- The bytes are added at the end, at most so many, and nothing else changes.
+-- The bytes of lines, whether they tell steps or a refusal.
+abbrev pub told : Result Lines Lines → List ℕ
+told (Ok lines) = written lines
+told (Err lines) = written lines
+
+-- The bytes are added at the end, at most so many.
 pub record Appends (before : Lines) (bytes : List ℕ) (most : ℕ) (after : Lines) : Type 0 where
   pub text : written after ≡ written before ++ bytes
-  pub size : after.len ≤ before.len + most
-  pub same : after.refused ≡ before.refused
+  pub size : length (written after) ≤ length (written before) + most

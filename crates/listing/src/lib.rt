@@ -5,7 +5,6 @@
 mod lines;
 mod rows;
 mod steps;
-mod write;
 
 pub use lines::Lines;
 pub use steps::listing;

@@ -1,61 +1,40 @@
 // The listing of a text.
-ghost use Rattle.std.specs.Prelude.{◌≡◌, true, false, is_err};
-ghost use Rattle.book.specs.Book.{book_of, codes_of};
-ghost use Rattle.listing.specs.Lines.{written};
+ghost use Rattle.std.specs.Prelude.{◌≡◌, ◌≤◌, map, length, is_err};
+ghost use Rattle.book.specs.Book.{book_of};
+ghost use Rattle.book.specs.Line.{numbers_at};
+ghost use Rattle.listing.specs.Lines.{written, told};
 ghost use Rattle.listing.specs.Listing.{step_lines, fault_lines, listing_of};
-ghost use Rattle.listing.specs.Told.{Tells};
 
 use crate::lines::Lines;
-use book::{Book, Fault};
+use book::{Book, Entry, Fault};
 
-// The steps of the codes of a book's text, or its fault.
-pub fn listing(text: &[u8]) -> Lines
-    ensures bytes { written result ≡ listing_of text.now }
-    ensures refused { result.refused ≡ is_err (book_of text.now) }
+// The steps of the codes of a book's text, or why the text is refused.
+pub fn listing(text: &[u8]) -> Result<Lines, Lines>
+    ensures bytes { told result ≡ listing_of text.now }
+    ensures refused { is_err result ≡ is_err (book_of text.now) }
 {
     let mut book = Book::new();
-    let answer = book.load(text);
-    told(&book, answer)
-}
-
-// The lines of a book and of what its load answered.
-fn told(book: &Book, answer: Result<usize, Fault>) -> Lines
-    ensures { Tells (codes_of book.now) answer result }
-{
-    match answer {
-        Ok(_) => steps(book),
-        Err(fault) => refusal(fault),
+    match book.load(text) {
+        Ok(_) => Ok(steps(book.entries())),
+        Err(fault) => Err(refusal(fault)),
     }
 }
 
-fn steps(book: &Book) -> Lines
-    ensures bytes { written result ≡ step_lines (codes_of book.now) }
-    ensures accepted { result.refused ≡ false }
+fn steps(entries: &[Entry]) -> Lines
+    requires { length entries.now ≤ 32 }
+    ensures { written result ≡ step_lines (map numbers_at entries.now) }
 {
-    let mut lines = Lines {
-        bytes: [0; 1024],
-        len: 0,
-        refused: false,
-    };
-    lines.text(b"l m q c v step\n");
-    let mut next = 0;
-    while let Some(code) = book.get(next) {
-        lines.step_row(code);
-        next += 1;
+    let mut lines = Lines::headed("l m q c v step\n");
+    for entry in entries {
+        lines.step_row(entry.code);
     }
     lines
 }
 
 fn refusal(fault: Fault) -> Lines
-    ensures bytes { written result ≡ fault_lines fault }
-    ensures refused { result.refused ≡ true }
+    ensures { written result ≡ fault_lines fault }
 {
-    let mut lines = Lines {
-        bytes: [0; 1024],
-        len: 0,
-        refused: true,
-    };
-    lines.text(b"line column number\n");
+    let mut lines = Lines::headed("line column number\n");
     lines.fault_row(fault);
     lines
 }

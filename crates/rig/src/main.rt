@@ -27,7 +27,7 @@ fn run(rt: &HostRuntime, text: &[u8]) -> io::Result<ExitCode> {
             Ok(ExitCode::SUCCESS)
         }
         Err(_) => {
-            let lines = listing(book_text);
+            let (Ok(lines) | Err(lines)) = listing(book_text);
             rt.stdout().write_all(lines.as_bytes())?;
             Ok(ExitCode::FAILURE)
         }

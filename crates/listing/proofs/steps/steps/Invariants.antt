@@ -1,14 +1,10 @@
-use Rattle.std.proofs.Common.{◌≡◌, ◌+◌, ◌-◌, ◌*◌, ◌≤◌, false, length, take}
-use Rattle.book.specs.Book.{codes_of}
+use Rattle.std.proofs.Common.{◌≡◌, ◌+◌, ◌*◌, ◌≤◌, take, map, length}
+use Rattle.book.specs.Line.{numbers_at}
 use Rattle.listing.specs.Lines.{written}
 use Rattle.listing.specs.Listing.{step_lines}
 use Rattle.listing.proofs.steps.steps.Given as goal
 
-abbrev pub invariant-loop-code : goal.invariant-loop-code
-invariant-loop-code l =
-    (written l.lines ≡ step_lines (take l.next (codes_of l.book))) ×
-    (l.lines.len ≤ 15 + 24 * l.next) ×
-    (l.lines.refused ≡ false)
-
-abbrev pub decreases-loop-code : goal.decreases-loop-code
-decreases-loop-code l = length (codes_of l.book) - l.next
+abbrev pub invariant-loop-entry : goal.invariant-loop-entry
+invariant-loop-entry l =
+    (written l.lines ≡ step_lines (map numbers_at (take l.entry-index l.entries))) ×
+    (length (written l.lines) ≤ 15 + 24 * l.entry-index)
