@@ -1,21 +1,22 @@
 -- Clean readings of labels: a path of worth 0 has those labels, so that only its start state is left to try.
-use Rattle.std.proofs.Common.{◌≡◌, ℕ, zero, suc, ◌<◌, ◌≤◌, true, List, [], ◌∷◌, reverse, sym, refl, ◌∙◌, subst, inr, arith, lit<, lit≤}
+use Rattle.std.proofs.Common.{◌≡◌, ℕ, zero, suc, ◌<◌, ◌≤◌, ◌-◌, true, List, [], ◌∷◌, length, reverse, sym, refl, ◌∙◌, subst, inr, arith, lit<, lit≤}
 use native.Mathlib.Nat.{zero-mod}
 use lib.Count.{ones, ones_in}
-use Rattle.examples.specs.Examples.{one_place_code, readings, scores}
+use Rattle.examples.specs.Examples.{one_place_code, readings, received, scores}
 use Rattle.fronts.specs.TableLaws.{table_meaning}
 use Rattle.reception.specs.Accepted.{IsCode}
 use Rattle.reception.specs.Answer.{told, delivered, Told, Delivered}
-use Rattle.reception.specs.Block.{block}
+use Rattle.reception.specs.Block.{block, capacity}
 use Rattle.reception.specs.Least.{PathOver, LeastPath, LeastWorth, Marks, NoLater, Chosen}
 use Rattle.reception.specs.Worth.{Scores, path_worth}
-use Rattle.reception.proofs.CleanReadings.{sent_reads}
+use Rattle.reception.proofs.CleanReadings.{AllReads, sent_reads}
 use Rattle.reception.proofs.CleanRuns.{takes_clean}
 use Rattle.reception.proofs.Codes.{accepted}
 use Rattle.reception.proofs.SharpScores.{AllSharp, turned_self, path_nought, nought_turned}
 use Rattle.trellis.specs.Numbers.{polynomials}
 use Rattle.trellis.specs.Path.{Leads}
 use Rattle.trellis.specs.Transparency.{Labels}
+use Rattle.trellis.specs.Words.{words_of}
 use Rattle.trellis.proofs.StepLaws.{turned_known}
 
 is_code : IsCode one_place_code
@@ -48,7 +49,7 @@ module _ (zs : List ℕ) (ss : List Scores) (sharp : AllSharp one_place_code 0 z
         let are = same_labels T ys p e in
         ((only T p.leads.0 p.state (subst (λ (l : List ℕ). Leads (polynomials one_place_code) T l p.leads.0) are p.leads.1)).0, are)
 
-    pub marks-sole : Marks one_place_code ss (path_worth one_place_code ss zs) true
+    marks-sole : Marks one_place_code ss (path_worth one_place_code ss zs) true
     marks-sole = record {
       set_sole = λ _ T U xs ys p q e f.
           let one = same T xs p (e ∙ nought) in
@@ -61,7 +62,7 @@ module _ (zs : List ℕ) (ss : List Scores) (sharp : AllSharp one_place_code 0 z
     not-later [] = tt
     not-later (x ∷ xs) = inr (refl, not-later xs)
 
-    pub chosen-sole : Chosen one_place_code ss S zs E
+    chosen-sole : Chosen one_place_code ss S zs E
     chosen-sole = record {
       is_least = least;
       ends = way;
@@ -74,8 +75,17 @@ module _ (zs : List ℕ) (ss : List Scores) (sharp : AllSharp one_place_code 0 z
           subst (λ (k : List ℕ). NoLater (E ∷ reverse zs) k) (λ i. sym end i ∷ reverse (sym are i)) (not-later (E ∷ reverse zs));
     }
 
-    pub least-sole : LeastWorth one_place_code ss 0
-    least-sole = record { start = S; labels = zs; is_least = least; has = nought }
+    pub told-sole : Told one_place_code ss (told (length ss) 0 true)
+    told-sole = record {
+      worth = 0;
+      sole = true;
+      least = record { start = S; labels = zs; is_least = least; has = nought };
+      marks = subst (λ (x : ℕ). Marks one_place_code ss x true) nought marks-sole;
+      says = refl;
+    }
+
+    pub delivered-sole : Delivered one_place_code ss (delivered (length ss - 1) true (words_of one_place_code zs))
+    delivered-sole = record { start = S; labels = zs; end = E; sole = true; chosen = chosen-sole; marks = marks-sole; says = refl }
 
 -- The scores are sharp at the labels, which are the phases of this code.
 abbrev turned : List ℕ
@@ -84,19 +94,18 @@ turned = 4 ∷ 2 ∷ 3 ∷ 5 ∷ []
 abbrev betrayed : List ℕ
 betrayed = 2 ∷ 0 ∷ 1 ∷ 3 ∷ []
 
+sharp_scores : (zs : List ℕ) → length zs ≤ capacity 20 one_place_code → AllReads table_meaning one_place_code 0 zs (readings one_place_code zs) → received one_place_code zs ≡ block one_place_code (scores one_place_code zs) → AllSharp one_place_code 0 zs (scores one_place_code zs)
+sharp_scores zs room reads is =
+    let took = takes_clean one_place_code is_code table_meaning 0 0 20 zs (readings one_place_code zs) [] reads (omega arith) in
+    let holds : received one_place_code zs ≡ block one_place_code took.scores = took.holds in
+    let same : scores one_place_code zs ≡ took.scores = cc in
+    subst (AllSharp one_place_code 0 zs) (sym same) took.sharp
+
 sharp_turned : AllSharp one_place_code 0 turned (scores one_place_code turned)
-sharp_turned =
-    let took = takes_clean one_place_code is_code table_meaning 0 0 20 turned (readings one_place_code turned) [] (sent_reads one_place_code is_code table_meaning turned) (lit≤ tt) in
-    let holds : block one_place_code (scores one_place_code turned) ≡ block one_place_code took.scores = took.holds in
-    let are : scores one_place_code turned ≡ took.scores = cc in
-    subst (AllSharp one_place_code 0 turned) (sym are) took.sharp
+sharp_turned = sharp_scores turned (lit≤ tt) (sent_reads one_place_code is_code table_meaning turned) refl
 
 sharp_betrayed : AllSharp one_place_code 0 betrayed (scores one_place_code betrayed)
-sharp_betrayed =
-    let took = takes_clean one_place_code is_code table_meaning 0 0 20 betrayed (readings one_place_code betrayed) [] (sent_reads one_place_code is_code table_meaning betrayed) (lit≤ tt) in
-    let holds : block one_place_code (scores one_place_code betrayed) ≡ block one_place_code took.scores = took.holds in
-    let are : scores one_place_code betrayed ≡ took.scores = cc in
-    subst (AllSharp one_place_code 0 betrayed) (sym are) took.sharp
+sharp_betrayed = sharp_scores betrayed (lit≤ tt) (sent_reads one_place_code is_code table_meaning betrayed) refl
 
 labels_turned : Labels one_place_code turned
 labels_turned = (lit< tt, (lit< tt, (lit< tt, (lit< tt, tt))))
@@ -129,22 +138,8 @@ path_turned : PathOver one_place_code (scores one_place_code turned) 0 turned
 path_turned = record { state = lit< tt; labels = labels_turned; long = refl; leads = (3, way_turned) }
 
 pub told-turned : Told one_place_code (scores one_place_code turned) (told 4 0 true)
-told-turned = record {
-  worth = 0;
-  sole = true;
-  least = least-sole turned (scores one_place_code turned) sharp_turned labels_turned 0 3 way_turned path_turned only_turned;
-  marks = marks-sole turned (scores one_place_code turned) sharp_turned labels_turned 0 3 way_turned path_turned only_turned;
-  says = refl;
-}
+told-turned = told-sole turned (scores one_place_code turned) sharp_turned labels_turned 0 3 way_turned path_turned only_turned
 
-pub delivered_turned : Delivered one_place_code (scores one_place_code turned) (delivered 3 true (3 ∷ 1 ∷ 2 ∷ []))
+pub delivered-turned : Delivered one_place_code (scores one_place_code turned) (delivered 3 true (3 ∷ 1 ∷ 2 ∷ []))
 unfolding ones ones_in
-delivered_turned = record {
-  start = 0;
-  labels = turned;
-  end = 3;
-  sole = true;
-  chosen = chosen-sole turned (scores one_place_code turned) sharp_turned labels_turned 0 3 way_turned path_turned only_turned;
-  marks = marks-sole turned (scores one_place_code turned) sharp_turned labels_turned 0 3 way_turned path_turned only_turned;
-  says = refl;
-}
+delivered-turned = delivered-sole turned (scores one_place_code turned) sharp_turned labels_turned 0 3 way_turned path_turned only_turned

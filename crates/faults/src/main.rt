@@ -5,11 +5,49 @@
 
 #![tactic(auto)]
 
-ghost use Rattle.std.specs.Prelude.{◌<◌, length, IfSome};
+mod escapes;
 
 use book::{Book, Fault};
+use escapes::unescaped;
 use std::alloc::{AllocError, Global};
+use std::fmt;
 use std::io::{BufRead, BufReader};
+
+// What became of a text.
+#[derive(Clone, Copy)]
+enum Outcome {
+    NoSuchEscape,
+    // The book was to have a code before the text was loaded.
+    NoCodeBefore,
+    // So many codes were read, and so many are there.
+    Loaded { count: usize, codes: usize },
+    // And so many codes are left.
+    Refused { fault: Fault, codes: usize },
+}
+
+// As a line of the input has it.
+impl fmt::Display for Outcome {
+    fn fmt<W: fmt::Write>(&self, f: &mut fmt::Formatter<W>) -> fmt::Result {
+        match self {
+            Outcome::NoSuchEscape => write!(f, "no such escape"),
+            Outcome::NoCodeBefore => write!(f, "the code before is not loaded"),
+            Outcome::Loaded { count, codes } => {
+                write!(f, "ok {count}")?;
+                if codes != count {
+                    write!(f, ", but there are {codes} codes")?;
+                }
+                Ok(())
+            }
+            Outcome::Refused { fault, codes } => {
+                write!(f, "{} {} {}", fault.number(), fault.line(), fault.column())?;
+                if *codes != 0 {
+                    write!(f, ", but {codes} codes are left")?;
+                }
+                Ok(())
+            }
+        }
+    }
+}
 
 fn main(rt: HostRuntime) -> anyhow::Result<()> {
     let mut texts = 0u64;
@@ -18,9 +56,11 @@ fn main(rt: HostRuntime) -> anyhow::Result<()> {
         let line = line?;
         let row = line.as_str();
         if !row.starts_with('#') {
+            // Not by `+=`, since no bound is known on how many texts come.
             texts = texts.saturating_add(1);
             let (due, escaped) = row.split_once('\t').unwrap_or((row, ""));
-            let came = outcome_of(rt.alloc(), escaped.as_bytes())?;
+            let outcome = outcome_of(rt.alloc(), escaped.as_bytes())?;
+            let came = outcome.to_string(rt.alloc())?;
             if came.as_str() != due {
                 println!(rt; "{row}: {came}")?;
                 differ = differ.saturating_add(1);
@@ -31,84 +71,24 @@ fn main(rt: HostRuntime) -> anyhow::Result<()> {
     Ok(())
 }
 
-// What becomes of the text, as a line of the input has it.
-fn outcome_of(heap: Global, escaped: &[u8]) -> Result<String, AllocError> {
-    match unescaped(heap, escaped)? {
-        Some(text) => loaded(heap, text.as_slice()),
-        None => String::from_str(heap, "no such escape"),
-    }
+fn outcome_of(heap: Global, escaped: &[u8]) -> Result<Outcome, AllocError> {
+    Ok(match unescaped(heap, escaped)? {
+        Some(text) => loaded(text.as_slice()),
+        None => Outcome::NoSuchEscape,
+    })
 }
 
 // Loads the text into a book that has a code, so that it is seen whether a fault empties the book.
-fn loaded(heap: Global, text: &[u8]) -> Result<String, AllocError> {
+fn loaded(text: &[u8]) -> Outcome {
     let mut book = Book::new();
     let _ = book.load(b"l m q c v h0 h1 h2 h3\n1 8 0 1 2 5 2 - -\n");
     if book.len() != 1 {
-        return String::from_str(heap, "the code before is not loaded");
+        return Outcome::NoCodeBefore;
     }
-    match book.load(text) {
-        Ok(count) => accepted(heap, count, book.len()),
-        Err(fault) => refused(heap, fault, book.len()),
-    }
-}
-
-fn accepted(heap: Global, count: usize, codes: usize) -> Result<String, AllocError> {
-    if codes == count {
-        format!(in heap; "ok {count}")
-    } else {
-        format!(in heap; "ok {count}, but there are {codes} codes")
-    }
-}
-
-fn refused(heap: Global, fault: Fault, codes: usize) -> Result<String, AllocError> {
-    let number = fault.number();
-    let line = fault.line();
-    let column = fault.column();
-    if codes == 0 {
-        format!(in heap; "{number} {line} {column}")
-    } else {
-        format!(in heap; "{number} {line} {column}, but {codes} codes are left")
-    }
-}
-
-// The text with its escapes undone; none where an escape is unknown.
-fn unescaped(heap: Global, escaped: &[u8]) -> Result<Option<Vec<u8>>, AllocError> {
-    let mut text = Vec::new(heap);
-    let mut rest = escaped;
-    while !rest.is_empty() {
-        let Some((byte, after)) = first_byte(rest) else {
-            return Ok(None);
-        };
-        text.push(byte)?;
-        rest = after;
-    }
-    Ok(Some(text))
-}
-
-// The first byte that the text stands for, and what is written after it.
-fn first_byte(escaped: &[u8]) -> Option<(u8, &[u8])>
-    ensures { IfSome result (λ p. length p.1.now < length escaped.now) }
-{
-    match escaped {
-        [b'\\', b'n', rest @ ..] => Some((b'\n', rest)),
-        [b'\\', b'r', rest @ ..] => Some((b'\r', rest)),
-        [b'\\', b't', rest @ ..] => Some((b'\t', rest)),
-        [b'\\', b'\\', rest @ ..] => Some((b'\\', rest)),
-        [b'\\', b'x', high, low, rest @ ..] => Some((hex_byte(*high, *low)?, rest)),
-        [b'\\', ..] => None,
-        [byte, rest @ ..] => Some((*byte, rest)),
-        [] => None,
-    }
-}
-
-fn hex_byte(high: u8, low: u8) -> Option<u8> {
-    Some(hex_digit(high)? << 4 | hex_digit(low)?)
-}
-
-fn hex_digit(byte: u8) -> Option<u8> {
-    match byte {
-        b'0'..=b'9' => Some(byte - b'0'),
-        b'a'..=b'f' => Some(byte - b'a' + 10),
-        _ => None,
+    let loaded = book.load(text);
+    let codes = book.len();
+    match loaded {
+        Ok(count) => Outcome::Loaded { count, codes },
+        Err(fault) => Outcome::Refused { fault, codes },
     }
 }

@@ -5,10 +5,10 @@
 
 use book::Book;
 use listing::listing;
-use script::{Answer, Sender, book_size, first_call, play};
+use script::{Calls, Sender, book_size, play};
 use sender::Quiet;
 use std::io;
-use std::io::{Read, Write};
+use std::io::Read;
 use std::process::ExitCode;
 
 fn main(rt: HostRuntime) -> io::Result<ExitCode> {
@@ -17,42 +17,37 @@ fn main(rt: HostRuntime) -> io::Result<ExitCode> {
     run(&rt, text.as_slice())
 }
 
-fn run(rt: &HostRuntime, text: &[u8]) -> io::Result<ExitCode> {
+fn run(rt: &impl Print, text: &[u8]) -> io::Result<ExitCode> {
     let (book_text, rest) = text.split_at(book_size(text));
     let mut book = Book::new();
-    match book.load(book_text) {
-        Ok(count) => {
-            println!(rt; "codes {count}")?;
-            play_all(rt, &book, calls(rest))?;
-            Ok(ExitCode::SUCCESS)
-        }
-        Err(_) => {
-            let (Ok(lines) | Err(lines)) = listing(book_text);
-            rt.stdout().write_all(lines.as_bytes())?;
-            Ok(ExitCode::FAILURE)
-        }
-    }
+    let Ok(count) = book.load(book_text) else {
+        tell_refusal(rt, book_text)?;
+        return Ok(ExitCode::FAILURE);
+    };
+    println!(rt; "codes {count}")?;
+    // The calls are behind the empty line.
+    let text = rest.strip_prefix(b"\n").unwrap_or(rest);
+    play_all(rt, &book, Calls { text })?;
+    Ok(ExitCode::SUCCESS)
 }
 
-// The calls, behind the empty line.
-fn calls(rest: &[u8]) -> &[u8] {
-    match rest {
-        [_, calls @ ..] => calls,
-        [] => rest,
-    }
+fn tell_refusal(rt: &impl Print, book_text: &[u8]) -> io::Result<()> {
+    let (Ok(lines) | Err(lines)) = listing(book_text);
+    rt.write_all(lines.as_bytes())
 }
 
 // Plays the calls one after another, and ends a burst that is still open.
-fn play_all(rt: &HostRuntime, book: &Book, calls: &[u8]) -> io::Result<()> {
+fn play_all(rt: &impl Print, book: &Book, calls: Calls) -> io::Result<()> {
     let mut sender = Sender::Quiet(Quiet::new());
-    let mut rest = calls;
     let mut printed = Ok(());
-    while !rest.is_empty() && printed.is_ok() {
-        let (call, size) = first_call(rest);
+    for call in calls {
         let (next, answer) = play(sender, book, call);
         sender = next;
-        printed = print_answer(rt, answer);
-        rest = &rest[size..];
+        printed = println!(rt; "{answer}");
+        // Not by `?`, since a sender may not be let go.
+        if printed.is_err() {
+            break;
+        }
     }
     put_away(sender);
     printed
@@ -65,26 +60,5 @@ fn put_away(sender: Sender) {
             let (quiet, _) = sending.end();
             quiet.retire();
         }
-    }
-}
-
-fn print_answer(rt: &HostRuntime, answer: Answer) -> io::Result<()> {
-    match answer {
-        Answer::Phases { phases, places } => print_phases(rt, phases, places),
-        Answer::Busy => println!(rt; "busy"),
-        Answer::Nothing => println!(rt; "nothing"),
-        Answer::Refused(number) => println!(rt; "refused {number}"),
-        Answer::Quiet => println!(rt; "quiet"),
-        Answer::Sent(count) => println!(rt; "sent {count}"),
-        Answer::Unread => println!(rt; "unread"),
-    }
-}
-
-fn print_phases(rt: &HostRuntime, phases: [u8; 4], places: u8) -> io::Result<()> {
-    let [a, b, c, d] = phases;
-    match places {
-        1 => println!(rt; "phases {a}"),
-        2 => println!(rt; "phases {a} {b}"),
-        _ => println!(rt; "phases {a} {b} {c} {d}"),
     }
 }

@@ -1,3 +1,4 @@
 pub mod Call
 pub mod Player
 pub mod Lines
+pub mod Answer

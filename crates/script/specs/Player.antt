@@ -2,14 +2,13 @@
 use Rattle.std.specs.Prelude.{ℕ, List, Some, None, Ok, Err, Option, Result}
 use Rattle.book.specs.Book.{entry_of}
 use Rattle.sender.specs.declared.refusal.SendRefusal.{SendRefusal}
-use Rattle.sender.specs.Refusal.{refusal_number}
 use Rattle.sender.specs.Sender.{Standing, standing, begun, answer, after}
 use Rattle.trellis.specs.declared.Numbers.{Numbers}
 use Rattle.trellis.specs.Mapper.{symbol_of}
 use Rattle.script.specs.declared.call.Call.{Call}
-use Rattle.script.specs.declared.call.Call.TheVariants.{Begin, Send, End, Unread as unread}
-use Rattle.script.specs.declared.player.Answer.{Answer}
-use Rattle.script.specs.declared.player.Answer.TheVariants.{Phases, Busy, Nothing, Refused, Quiet, Sent, Unread}
+use Rattle.script.specs.declared.call.Call.TheVariants.{Begin, Send, End}
+use Rattle.script.specs.declared.answer.Answer.{Answer}
+use Rattle.script.specs.declared.answer.Answer.TheVariants.{Phases, Busy, Nothing, Refused, Quiet, Sent, Unread}
 use Rattle.script.specs.declared.player.Sender.{Sender}
 use Rattle.script.specs.declared.player.Sender.TheVariants as sender
 
@@ -22,7 +21,7 @@ state_of (sender.Sending s) = Some (standing s)
 abbrev pub begin_answer : Option Numbers → Option Standing → Answer
 begin_answer code (Some b) = Busy
 begin_answer None None = Nothing
-begin_answer (Some n) None = Phases (symbol_of n 0) n.places
+begin_answer (Some n) None = Phases (record { phases = symbol_of n 0; places = n.places })
 
 abbrev pub begin_after : Option Numbers → Option Standing → Option Standing
 begin_after code (Some b) = Some b
@@ -31,8 +30,8 @@ begin_after (Some n) None = Some (begun n)
 
 -- send: the symbol of the word, or its refusal.
 abbrev pub told : Standing → Result (List ℕ) SendRefusal → Answer
-told b (Ok phases) = Phases phases b.numbers.places
-told b (Err r) = Refused (refusal_number r)
+told b (Ok phases) = Phases (record { phases = phases; places = b.numbers.places })
+told b (Err r) = Refused r
 
 abbrev pub send_answer : Option Standing → ℕ → Answer
 send_answer None w = Quiet
@@ -47,16 +46,16 @@ abbrev pub end_answer : Option Standing → Answer
 end_answer None = Quiet
 end_answer (Some b) = Sent b.sent
 
--- What a call answers.
-abbrev pub answer_of : List Numbers → Option Standing → Call → Answer
-answer_of codes s (Begin entry) = begin_answer (entry_of codes entry) s
-answer_of codes s (Send w) = send_answer s w
-answer_of codes s End = end_answer s
-answer_of codes s unread = Unread
+-- What a call answers; none stands for a line that is no call.
+abbrev pub answer_of : List Numbers → Option Standing → Option Call → Answer
+answer_of codes s (Some (Begin entry)) = begin_answer (entry_of codes entry) s
+answer_of codes s (Some (Send w)) = send_answer s w
+answer_of codes s (Some End) = end_answer s
+answer_of codes s None = Unread
 
 -- The state after it.
-abbrev pub state_after : List Numbers → Option Standing → Call → Option Standing
-state_after codes s (Begin entry) = begin_after (entry_of codes entry) s
-state_after codes s (Send w) = send_after s w
-state_after codes s End = None
-state_after codes s unread = s
+abbrev pub state_after : List Numbers → Option Standing → Option Call → Option Standing
+state_after codes s (Some (Begin entry)) = begin_after (entry_of codes entry) s
+state_after codes s (Some (Send w)) = send_after s w
+state_after codes s (Some End) = None
+state_after codes s None = s

@@ -2,10 +2,12 @@
 
 #![tactic(auto)]
 
+mod answer;
 mod call;
 mod lines;
 mod player;
 
+pub use answer::{Answer, Symbol};
 pub use call::{Call, read_call};
-pub use lines::{book_size, first_call};
-pub use player::{Answer, Sender, play};
+pub use lines::{Calls, book_size, first_call};
+pub use player::{Sender, play};

@@ -1,55 +1,76 @@
 // A script: the text of a book, an empty line, and one call to a line.
-ghost use Rattle.std.specs.Prelude.{◌≡◌, ◌<◌, ◌≤◌, true, ◌&&◌, length, ◌==◌};
-ghost use Rattle.script.specs.Lines.{empty_line, line_feed, first_call, first_size};
+ghost use Rattle.std.specs.Prelude.{◌≡◌, ◌<◌, ◌≤◌, true, ◌&&◌, ◌∷◌, length, drop, position, ◌==◌};
+ghost use Rattle.std.specs.List.{zip};
+ghost use Rattle.script.specs.Lines.{empty_line, first_call, first_size, next_call};
+ghost use Rattle.std.specs.Iterator.{at_most};
 
 use crate::call::{Call, read_call};
+use std::iter;
 
 // How many bytes stand before the first empty line; all of them if there is none.
 pub fn book_size(text: &[u8]) -> usize
     ensures value { result ≡ empty_line true text.now }
     ensures within { result ≤ length text.now }
 {
-    let mut begins = true;
-    for (at, byte) in text.iter().enumerate() {
-        if is_empty_line(begins, *byte) {
-            return at;
-        }
-        begins = *byte == b'\n';
-    }
-    text.len()
+    empty_line(text).unwrap_or(text.len())
 }
 
-// A line feed where a line begins.
-fn is_empty_line(begins: bool, byte: u8) -> bool
-    ensures { result ≡ (begins && byte == 10) }
+// Where the first empty line is. The text begins as a line does, behind a line feed.
+fn empty_line(text: &[u8]) -> Option<usize>
+    ensures { result ≡ position (λ b. b.0 == 10 && b.1 == 10) (zip (10 ∷ text.now) text.now) }
 {
-    begins && byte == b'\n'
+    let before = iter::once(b'\n').chain(text.iter().copied());
+    before
+        .zip(text)
+        .position(|(before, byte)| is_empty_line(before, *byte))
 }
 
-// The call of the first line, and how many bytes the line takes with its line feed. A line that is not ended is no call.
-pub fn first_call(text: &[u8]) -> (Call, usize)
+// A line feed behind another.
+fn is_empty_line(before: u8, byte: u8) -> bool
+    ensures { result ≡ (before == 10 && byte == 10) }
+{
+    before == b'\n' && byte == b'\n'
+}
+
+// The call that the first line is, if it is one, and the text behind that line. A line that is not ended is no call.
+pub fn first_call(text: &[u8]) -> (Option<Call>, &[u8])
     ensures call { result.0 ≡ first_call text.now }
-    ensures size { result.1 ≡ first_size text.now }
-    ensures within { result.1 ≤ length text.now }
-    ensures some { 0 < length text.now → 0 < result.1 }
+    ensures rest { result.1.now ≡ drop (first_size text.now) text.now }
+    ensures within { first_size text.now ≤ length text.now }
+    ensures shorter { 0 < length text.now → length result.1.now < length text.now }
 {
-    let size = line_feed(text);
-    if size < text.len() {
-        (read_call(&text[0..size]), size + 1)
-    } else {
-        (Call::Unread, size)
+    match line_feed(text) {
+        Some(end) => (read_call(&text[..end]), &text[end + 1..]),
+        None => (None, &text[text.len()..]),
     }
 }
 
-// Where the first line feed stands, or the length of the text.
-fn line_feed(text: &[u8]) -> usize
-    ensures value { result ≡ line_feed text.now }
-    ensures within { result ≤ length text.now }
+// Where the first line feed is.
+fn line_feed(text: &[u8]) -> Option<usize>
+    ensures { result ≡ position (λ b. b == 10) text.now }
 {
-    for (at, byte) in text.iter().enumerate() {
-        if *byte == b'\n' {
-            return at;
+    text.iter().position(|byte| *byte == b'\n')
+}
+
+// The call of each line of a text; none for a line that is no call.
+#[derive(Clone, Debug, Drop)]
+pub struct Calls<'a> {
+    pub text: &'a [u8],
+}
+
+impl<'a> Iterator for Calls<'a> {
+    type Item = Option<Call>;
+
+    ghost next_gives = { λ s r t. (r ≡ next_call s.text.now) × (t.text.now ≡ drop (first_size s.text.now) s.text.now) };
+
+    ghost remaining = { λ s. at_most (length s.text.now) };
+
+    fn next(&mut self) -> Option<Option<Call>> {
+        if self.text.is_empty() {
+            return None;
         }
+        let (call, rest) = first_call(self.text);
+        self.text = rest;
+        Some(call)
     }
-    text.len()
 }

@@ -5,57 +5,114 @@
 #![tactic(auto)]
 
 use book::{Book, Fault};
-use code::Code;
 use std::alloc::{AllocError, Global};
+use std::fmt;
 use std::io::{BufRead, BufReader};
 
 const NAMES: &str = "l m q c v h0 h1 h2 h3 degrees free";
 
-// What became of a row.
-#[derive(Drop)]
-enum Outcome {
+// What holds of a row, or else what came instead.
+type Outcome = Result<Held, Difference>;
+
+#[derive(Clone, Copy)]
+enum Held {
     // The step is the printed angle.
     Angle,
     // The row's parity bit is differential.
     Parity,
-    // Neither: what came instead.
-    Other(String),
+}
+
+#[derive(Clone, Copy)]
+enum Difference {
+    NoDistance,
+    NoAngle,
+    // No step has the angle.
+    NoSuchAngle,
+    NoCode,
+    Step { step: u8, phases: u8 },
+    Refused(Fault),
+}
+
+impl fmt::Display for Difference {
+    fn fmt<W: fmt::Write>(&self, f: &mut fmt::Formatter<W>) -> fmt::Result {
+        match self {
+            Difference::NoDistance => write!(f, "no distance"),
+            Difference::NoAngle => write!(f, "no angle"),
+            Difference::NoSuchAngle => write!(f, "no such angle"),
+            Difference::NoCode => write!(f, "no code"),
+            Difference::Step { step, phases } => write!(f, "step {step} of {phases} phases"),
+            Difference::Refused(fault) => {
+                let number = fault.number();
+                let column = fault.column();
+                write!(f, "refused with number {number} at column {column}")
+            }
+        }
+    }
 }
 
 // How many rows had each outcome.
-#[derive(Clone, Copy)]
+#[derive(Clone, Copy, Default)]
 struct Tally {
     angles: u64,
     refused: u64,
     differ: u64,
 }
 
+impl Tally {
+    fn count(&mut self, outcome: Outcome) {
+        let rows = match outcome {
+            Ok(Held::Angle) => &mut self.angles,
+            Ok(Held::Parity) => &mut self.refused,
+            Err(_) => &mut self.differ,
+        };
+        // Not by `+=`, since no bound is known on how many rows come.
+        *rows = rows.saturating_add(1);
+    }
+
+    fn rows(self) -> u64 {
+        self.angles
+            .saturating_add(self.refused)
+            .saturating_add(self.differ)
+    }
+}
+
+impl fmt::Display for Tally {
+    fn fmt<W: fmt::Write>(&self, f: &mut fmt::Formatter<W>) -> fmt::Result {
+        let rows = self.rows();
+        let Tally {
+            angles,
+            refused,
+            differ,
+        } = self;
+        write!(f, "{rows} rows: {angles} have their angle, ")?;
+        write!(
+            f,
+            "{refused} are refused for their parity bit, {differ} differ"
+        )
+    }
+}
+
+// A row: the columns of a book, and the angle in halves of a degree. The distance behind them is not used.
+#[derive(Clone, Copy)]
+struct Row<'a> {
+    columns: &'a str,
+    halves: u32,
+}
+
 fn main(rt: HostRuntime) -> anyhow::Result<()> {
-    let mut tally = Tally {
-        angles: 0,
-        refused: 0,
-        differ: 0,
-    };
+    let mut tally = Tally::default();
     for line in BufReader::new(rt.alloc(), rt.stdin())?.lines(rt.alloc()) {
         let line = line?;
         let row = line.as_str();
         if is_row(row) {
             let outcome = outcome_of(rt.alloc(), row)?;
-            if let Outcome::Other(came) = &outcome {
+            if let Err(came) = outcome {
                 println!(rt; "{row}: {came}")?;
             }
-            tally = counted(tally, &outcome);
+            tally.count(outcome);
         }
     }
-    let Tally {
-        angles,
-        refused,
-        differ,
-    } = tally;
-    let rows = angles.saturating_add(refused).saturating_add(differ);
-    println!(rt;
-        "{rows} rows: {angles} have their angle, {refused} are refused for their parity bit, {differ} differ"
-    )?;
+    println!(rt; "{tally}")?;
     Ok(())
 }
 
@@ -64,43 +121,21 @@ fn is_row(line: &str) -> bool {
     !line.starts_with('#') && line != NAMES
 }
 
-fn counted(tally: Tally, outcome: &Outcome) -> Tally {
-    match outcome {
-        Outcome::Angle => Tally {
-            angles: tally.angles.saturating_add(1),
-            ..tally
-        },
-        Outcome::Parity => Tally {
-            refused: tally.refused.saturating_add(1),
-            ..tally
-        },
-        Outcome::Other(_) => Tally {
-            differ: tally.differ.saturating_add(1),
-            ..tally
-        },
+fn outcome_of(heap: Global, line: &str) -> Result<Outcome, AllocError> {
+    match read_row(line) {
+        Ok(Row { columns, halves }) => {
+            let text = format!(in heap; "l m q c v h0 h1 h2 h3\n{columns}\n")?;
+            Ok(judged(text.as_bytes(), halves))
+        }
+        Err(difference) => Ok(Err(difference)),
     }
 }
 
-// A row: the columns of a book, the angle and the distance.
-fn outcome_of(heap: Global, row: &str) -> Result<Outcome, AllocError> {
-    let Some((front, _)) = row.rsplit_once(' ') else {
-        return other(heap, "no distance");
-    };
-    let Some((columns, degrees)) = front.rsplit_once(' ') else {
-        return other(heap, "no angle");
-    };
-    let Some(halves) = half_degrees(degrees) else {
-        return other(heap, "no such angle");
-    };
-    let text = format!(in heap; "l m q c v h0 h1 h2 h3\n{columns}\n")?;
-    let mut book = Book::new();
-    match book.load(text.as_bytes()) {
-        Ok(_) => match book.get(0) {
-            Some(code) => judged(heap, code, halves),
-            None => other(heap, "no code"),
-        },
-        Err(fault) => refused(heap, fault),
-    }
+fn read_row(line: &str) -> Result<Row<'_>, Difference> {
+    let (front, _) = line.rsplit_once(' ').ok_or(Difference::NoDistance)?;
+    let (columns, degrees) = front.rsplit_once(' ').ok_or(Difference::NoAngle)?;
+    let halves = half_degrees(degrees).ok_or(Difference::NoSuchAngle)?;
+    Ok(Row { columns, halves })
 }
 
 // The printed angle in halves of a degree.
@@ -116,27 +151,19 @@ fn half_degrees(degrees: &str) -> Option<u32> {
 }
 
 // The angle of the code is step * 720 / phases halves of a degree.
-fn judged(heap: Global, code: Code, halves: u32) -> Result<Outcome, AllocError> {
+fn judged(text: &[u8], halves: u32) -> Outcome {
+    let mut book = Book::new();
+    match book.load(text) {
+        Ok(_) => {}
+        Err(Fault::Parity { .. }) => return Ok(Held::Parity),
+        Err(fault) => return Err(Difference::Refused(fault)),
+    }
+    let code = book.get(0).ok_or(Difference::NoCode)?;
     let step = code.step();
     let phases = code.numbers.phases;
     if 720 * u32::from(step) == halves.saturating_mul(u32::from(phases)) {
-        return Ok(Outcome::Angle);
+        Ok(Held::Angle)
+    } else {
+        Err(Difference::Step { step, phases })
     }
-    let came = format!(in heap; "step {step} of {phases} phases")?;
-    Ok(Outcome::Other(came))
-}
-
-fn refused(heap: Global, fault: Fault) -> Result<Outcome, AllocError> {
-    let number = fault.number();
-    if number == 5 {
-        return Ok(Outcome::Parity);
-    }
-    let column = fault.column();
-    let came = format!(in heap; "refused with number {number} at column {column}")?;
-    Ok(Outcome::Other(came))
-}
-
-fn other(heap: Global, came: &str) -> Result<Outcome, AllocError> {
-    let came = String::from_str(heap, came)?;
-    Ok(Outcome::Other(came))
 }
