@@ -1,12 +1,6 @@
 -- What deliver answers from C: through at most 255 words, which is as many as a block has.
 use Rattle.std.proofs.Common.{◌≡◌, ℕ, ◌-◌, ◌<◌, ◌≤◌, min, Bool, true, false, cond, eqb, ltb, ◌⊎◌, List, length, sym, refl, ap, ◌∙◌, subst, ⊎_elim, arith}
-use Rattle.std.proofs.lemmas.Bool.{eqb-true, eq-eqb, lt-ltb, le-ltb, ltb-false, cases_lt}
-use Rattle.code.specs.Flaw.{judged}
-use Rattle.kamzhules.specs.Answers.{number_of}
-use Rattle.kamzhules.specs.declared.structs.CReceiver.{CReceiver}
-use Rattle.kamzhules.specs.Receivers.{StandsIn, struct_number}
-use Rattle.kamzhules.specs.Structs.{numbers_in}
-use Rattle.kamzhules.proofs.Standing.{struct_nought}
+use Rattle.std.proofs.lemmas.Bool.{eqb-true, lt-ltb, le-ltb, ltb-false, cases_lt}
 use Rattle.receiver.specs.declared.record.Progress.{Progress}
 use Rattle.receiver.specs.Stands.{StandsBy}
 use Rattle.reception.specs.Answer.{Answer, refused, delivered, Delivered, NoPath, DeliverAnswers}
@@ -15,20 +9,20 @@ use Rattle.reception.specs.Worth.{Scores}
 use Rattle.survivors.specs.Best.{Survivor}
 use Rattle.trellis.specs.declared.Numbers.{Numbers}
 
-ltb-same : (len l : ℕ) → l ≤ 256 → ltb (min len 255) (l - 1) ≡ ltb len (l - 1)
-ltb-same len l h =
+ltb-same : (words len l : ℕ) → words ≡ min len 255 → l ≤ 256 → ltb words (l - 1) ≡ ltb len (l - 1)
+ltb-same words len l e h =
     ⊎_elim
-    (λ (p : len < l - 1). lt-ltb (min len 255) (l - 1) (omega arith) ∙ sym (lt-ltb len (l - 1) p))
-    (λ (p : l - 1 ≤ len). le-ltb (min len 255) (l - 1) (omega arith) ∙ sym (le-ltb len (l - 1) p))
+    (λ (p : len < l - 1). lt-ltb words (l - 1) (omega arith) ∙ sym (lt-ltb len (l - 1) p))
+    (λ (p : l - 1 ≤ len). le-ltb words (l - 1) (omega arith) ∙ sym (le-ltb len (l - 1) p))
     (cases_lt len (l - 1))
 
 -- A buffer of more than 255 words serves as one of 255.
-pub any_room : {K : Type 0} (says : K → Survivor) (cs : List K) (p : Progress) (b : Block) (len : ℕ) (a : Answer) → StandsBy says cs p b → DeliverAnswers (min len 255) b a → DeliverAnswers len b a
-any_room says cs p no_block len a s d = d
-any_room says cs p (block n ss) len a s d =
+pub any_room : {K : Type 0} (says : K → Survivor) (cs : List K) (p : Progress) (b : Block) (words len : ℕ) (a : Answer) → words ≡ min len 255 → StandsBy says cs p b → DeliverAnswers words b a → DeliverAnswers len b a
+any_room says cs p no_block words len a e s d = d
+any_room says cs p (block n ss) words len a e s d =
     let few : length ss ≤ 256 = omega (arith, s.2.few) in
-    let same : deliver_refusal (block n ss) (min len 255) ≡ deliver_refusal (block n ss) len =
-    ap (λ (t : Bool). cond (ltb (length ss) 2) 23 (cond t 10 0)) (ltb-same len (length ss) few) in
+    let same : deliver_refusal (block n ss) words ≡ deliver_refusal (block n ss) len =
+    ap (λ (t : Bool). cond (ltb (length ss) 2) 23 (cond t 10 0)) (ltb-same words len (length ss) e few) in
     let T : ℕ → Type 0 = λ (R : ℕ). cond (eqb R 0) (Delivered n ss a ⊎ NoPath n ss a) (a ≡ refused R) in
     subst T same d
 
@@ -52,15 +46,3 @@ fits_by n ss len k m ws false e d = let o : ◌≡◌ {A = ℕ} 0 1 = cc in absu
 pub delivered_fits : (b : Block) (len k : ℕ) (m : Bool) (ws : List ℕ) → DeliverAnswers len b (delivered k m ws) → k ≤ len
 delivered_fits no_block len k m ws d = let o : ◌≡◌ {A = ℕ} 0 1 = cc in absurd (omega arith)
 delivered_fits (block n ss) len k m ws d = fits_by n ss len k m ws (eqb (deliver_refusal (block n ss) len) 0) refl d
-
--- A struct that is refused itself stands for no block, and is refused so.
-pub barred : {K : Type 0} (says : K → Survivor) (cs : List K) (r : CReceiver) (b : Block) (len e : ℕ) → StandsIn says cs r b → e ≡ struct_number r → eqb e 0 ≡ false → DeliverAnswers len b (refused e)
-barred says cs r no_block len e s is some =
-    let due : struct_number r ≡ 21 = ap (λ (t : Bool). cond t (number_of (judged (numbers_in r.code))) 21) s in ap refused (is ∙ due)
-barred says cs r (block n ss) len e s is some =
-    let z : true ≡ false = sym (eq-eqb e 0 (is ∙ struct_nought r n s.0 s.1)) ∙ some in
-    let o : ◌≡◌ {A = ℕ} 0 1 = cc in absurd (omega arith)
-
-pub any_room_at : {K : Type 0} (says : K → Survivor) (cs : List K) (p : Progress) (b : Block) (words len : ℕ) (a : Answer) → words ≡ min len 255 → StandsBy says cs p b → DeliverAnswers words b a → DeliverAnswers len b a
-any_room_at says cs p b words len a e s d =
-    let T : ℕ → Type 0 = λ (k : ℕ). DeliverAnswers k b a in any_room says cs p b len a s (subst T e d)

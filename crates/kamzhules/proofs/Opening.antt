@@ -12,9 +12,12 @@ use Rattle.trellis.specs.declared.Numbers.{Numbers}
 pub at_zero : (R : ℕ) (A B : Type 0) → R ≡ 0 → A → cond (eqb R 0) A B
 at_zero R A B e x = let T : ℕ → Type 0 = λ (k : ℕ). cond (eqb k 0) A B in subst T (sym e) x
 
-module _ (cells : ℕ) (n : Numbers) (enough : ltb cells (2 ^ n.memory * (n.memory + 2)) ≡ false) where
+module _ (cells : ℕ) (n : Numbers) (enough : false ≡ ltb cells (2 ^ n.memory * (n.memory + 2))) where
+  pub open_refusal-zero : open_refusal cells n ≡ 0
+  open_refusal-zero = opens_refused cells n (sym enough)
+
   open_zero : unless_refused (open_refusal cells n) (opened (capacity cells n)) ≡ opened (capacity cells n)
-  open_zero = ap (λ (r : ℕ). unless_refused r (opened (capacity cells n))) (opens_refused cells n enough)
+  open_zero = ap (λ (r : ℕ). unless_refused r (opened (capacity cells n))) open_refusal-zero
 
   pub held_is : (k : ℕ) → opened k ≡ unless_refused (open_refusal cells n) (opened (capacity cells n)) → k ≡ capacity cells n
   held_is k e = let p : opened k ≡ opened (capacity cells n) = e ∙ open_zero in cc
@@ -26,4 +29,4 @@ module _ (cells : ℕ) (n : Numbers) (enough : ltb cells (2 ^ n.memory * (n.memo
   not_refused k e = let p : refused k ≡ opened (capacity cells n) = e ∙ open_zero in let o : ◌≡◌ {A = ℕ} 0 1 = cc in absurd (omega arith)
 
   pub begun : {K : Type 0} (says : K → Survivor) (cs : List K) (p : Progress) → StandsBy says cs p (after cells no_block (opens n)) → Holds says cs n []
-  begun says cs p s = (rw (opened_block cells n enough no_block) at s).2
+  begun says cs p s = (rw (opened_block cells n (sym enough) no_block) at s).2

@@ -4,12 +4,12 @@ use Rattle.book.specs.declared.fault.Fault.{Fault}
 use Rattle.book.specs.Book.{entry_of}
 use Rattle.book.specs.Fault.{fault_number, fault_line, fault_column}
 use Rattle.code.specs.declared.flaw.Flaw.{Flaw}
-use Rattle.code.specs.Flaw.{judged, flaw_number, flaw_column}
-use Rattle.kamzhules.specs.declared.structs.CCode.{CCode}
-use Rattle.kamzhules.specs.declared.structs.CFault.{CFault}
-use Rattle.kamzhules.specs.declared.structs.CSender.{CSender}
-use Rattle.kamzhules.specs.declared.structs.CSymbol.{CSymbol}
-use Rattle.kamzhules.specs.Structs.{numbers_in, code_out, fault, standing_of, sender_at}
+use Rattle.code.specs.Flaw.{flaw_number, flaw_column}
+use Rattle.kamzhules.specs.declared.codes.CCode.{CCode}
+use Rattle.kamzhules.specs.declared.refused.CFault.{CFault}
+use Rattle.kamzhules.specs.declared.senders.CSender.{CSender}
+use Rattle.kamzhules.specs.declared.codes.CSymbol.{CSymbol}
+use Rattle.kamzhules.specs.Structs.{code_in, code_out, fault, standing_of, sender_at}
 use Rattle.sender.specs.declared.refusal.SendRefusal.{SendRefusal}
 use Rattle.sender.specs.Refusal.{refusal_number}
 use Rattle.sender.specs.Sender.{answer, after}
@@ -21,11 +21,6 @@ use Rattle.trellis.specs.Step.{step}
 abbrev pub check_of : Result Numbers Flaw → CFault
 check_of (Ok n) = fault 0 0 0
 check_of (Err f) = fault (flaw_number f) 0 (flaw_column f)
-
--- The same from the flaw, if there is one.
-abbrev pub flaw_fault : Option Flaw → CFault
-flaw_fault None = fault 0 0 0
-flaw_fault (Some f) = fault (flaw_number f) 0 (flaw_column f)
 
 -- kz_step.
 abbrev pub step_of : Result Numbers Flaw → ℕ
@@ -70,13 +65,13 @@ send_symbol_by (Err f) s w old = old
 
 -- kz_send: a quiet sender is judged first.
 abbrev pub send_number : CSender → ℕ → ℕ
-send_number s w = cond (s.sending == 1) (send_number_by (judged (numbers_in s.code)) s w) 254
+send_number s w = cond (s.sending == 1) (send_number_by (code_in s.code) s w) 254
 
 abbrev pub send_after : CSender → ℕ → CSender
-send_after s w = cond (s.sending == 1) (send_after_by (judged (numbers_in s.code)) s w) s
+send_after s w = cond (s.sending == 1) (send_after_by (code_in s.code) s w) s
 
 abbrev pub send_symbol : CSender → ℕ → CSymbol → CSymbol
-send_symbol s w old = cond (s.sending == 1) (send_symbol_by (judged (numbers_in s.code)) s w old) old
+send_symbol s w old = cond (s.sending == 1) (send_symbol_by (code_in s.code) s w old) old
 
 -- kz_end.
 abbrev pub end_number : CSender → ℕ

@@ -1,25 +1,52 @@
 -- The fronts by their numbers, and what kz_turn and kz_clean answer and write.
-use Rattle.std.specs.Prelude.{ℕ, cond, List, Some, None, Option, ◌==◌}
+use Rattle.std.specs.Prelude.{◌≡◌, ℕ, cond, List, Some, None, Ok, Err, Option, Result, ◌==◌}
+use Rattle.std.specs.Option.{option_map}
 use Rattle.fronts.specs.Clean.{clean_goes}
 use Rattle.fronts.specs.LostLaws.{lost_meaning}
 use Rattle.fronts.specs.StrikeLaws.{strike_meaning}
 use Rattle.fronts.specs.TableLaws.{table_meaning}
+use Rattle.kamzhules.specs.declared.refused.Refused.{Refused}
+use Rattle.kamzhules.specs.declared.refused.Refused.TheVariants.{NoFront}
+use Rattle.kamzhules.specs.declared.front_kind.FrontKind.{FrontKind}
+use Rattle.kamzhules.specs.declared.front_kind.FrontKind.TheVariants.{Table, Strike, LostTable, LostStrike}
 use Rattle.reception.specs.Front.{FrontMeaning}
 
--- The fronts for plain scores: the table, and the lost-place layer over it.
-abbrev pub plain_front : ℕ → Option FrontMeaning
-plain_front k = cond (k == 0) (Some table_meaning) (cond (k == 2) (Some (lost_meaning table_meaning)) None)
+-- The fronts by their numbers.
+abbrev pub front_kind : ℕ → Option FrontKind
+front_kind k = cond (k == 0) (Some Table) (cond (k == 1) (Some Strike) (cond (k == 2) (Some LostTable) (cond (k == 3) (Some LostStrike) None)))
 
--- The fronts for strike scores: the strike front, and the lost-place layer over it.
+-- The front of the number, or the refusal where it names none.
+abbrev pub Names : ℕ → Result FrontKind Refused → Type 0
+Names k (Ok kind) = front_kind k ≡ Some kind
+Names k (Err r) = (front_kind k ≡ None) × (r ≡ NoFront)
+
+-- What each front says of readings: the table, the strike front, and the lost-place layer over each.
+abbrev pub meaning_of : FrontKind → FrontMeaning
+meaning_of Table = table_meaning
+meaning_of Strike = strike_meaning
+meaning_of LostTable = lost_meaning table_meaning
+meaning_of LostStrike = lost_meaning strike_meaning
+
+-- The fronts that give plain scores, and those that give strike scores.
+abbrev pub plain_kind : Option FrontKind → Option FrontMeaning
+plain_kind (Some Table) = Some (meaning_of Table)
+plain_kind (Some LostTable) = Some (meaning_of LostTable)
+plain_kind _ = None
+
+abbrev pub strike_kind : Option FrontKind → Option FrontMeaning
+strike_kind (Some Strike) = Some (meaning_of Strike)
+strike_kind (Some LostStrike) = Some (meaning_of LostStrike)
+strike_kind _ = None
+
+abbrev pub plain_front : ℕ → Option FrontMeaning
+plain_front k = plain_kind (front_kind k)
+
 abbrev pub strike_front : ℕ → Option FrontMeaning
-strike_front k = cond (k == 1) (Some strike_meaning) (cond (k == 3) (Some (lost_meaning strike_meaning)) None)
+strike_front k = strike_kind (front_kind k)
 
 -- The fronts of both kinds.
 abbrev pub any_front : ℕ → Option FrontMeaning
-any_front k =
-    cond (k == 0) (Some table_meaning)
-    (cond (k == 1) (Some strike_meaning)
-    (cond (k == 2) (Some (lost_meaning table_meaning)) (cond (k == 3) (Some (lost_meaning strike_meaning)) None)))
+any_front k = option_map meaning_of (front_kind k)
 
 -- kz_turn.
 abbrev pub turn_number : Option FrontMeaning → ℕ

@@ -1,4 +1,5 @@
 pub mod Structs
+pub mod Refused
 pub mod Answers
 pub mod Cells
 pub mod Fronts

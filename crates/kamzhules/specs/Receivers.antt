@@ -1,18 +1,20 @@
 -- The receivers of C: what a struct stands for with its cells, and what the calls answer and write. A receiver with other
 -- bytes in its struct or cells stands for no block; then only what is said without a block is promised.
-use Rattle.std.specs.Prelude.{◌≡◌, ℕ, ◌+◌, ◌-◌, ◌^◌, min, Bool, false, cond, List, [], ◌++◌, length, drop, Some, None, Ok, Err, Option, Result, ◌==◌, nat_eq}
+use Rattle.std.specs.Prelude.{◌≡◌, ℕ, ◌+◌, ◌-◌, ◌^◌, min, false, cond, List, [], ◌++◌, length, drop, Some, None, Ok, Err, Option, Result, ◌==◌, nat_eq}
+use Rattle.std.specs.Int.{from_bool}
 use Rattle.code.specs.declared.flaw.Flaw.{Flaw}
 use Rattle.code.specs.declared.record.Code.{Code}
-use Rattle.code.specs.Flaw.{judged, flaw_number}
+use Rattle.code.specs.Flaw.{flaw_number}
 use Rattle.kamzhules.specs.Answers.{number_of}
-use Rattle.kamzhules.specs.Cells.{mark_of}
-use Rattle.kamzhules.specs.declared.structs.CCode.{CCode}
-use Rattle.kamzhules.specs.declared.structs.CDelivered.{CDelivered}
-use Rattle.kamzhules.specs.declared.structs.CReceiver.{CReceiver}
-use Rattle.kamzhules.specs.declared.structs.CTold.{CTold}
-use Rattle.kamzhules.specs.Structs.{numbers_in}
+use Rattle.kamzhules.specs.declared.codes.CCode.{CCode}
+use Rattle.kamzhules.specs.declared.receivers.CDelivered.{CDelivered}
+use Rattle.kamzhules.specs.declared.receivers.CReceiver.{CReceiver}
+use Rattle.kamzhules.specs.declared.receivers.CTold.{CTold}
+use Rattle.kamzhules.specs.declared.refused.Refused.{Refused}
+use Rattle.kamzhules.specs.Refused.{refused_number}
+use Rattle.kamzhules.specs.Structs.{code_in}
 use Rattle.receiver.specs.declared.record.Progress.{Progress}
-use Rattle.receiver.specs.Stands.{StandsBy, Holds}
+use Rattle.receiver.specs.Stands.{Holds}
 use Rattle.reception.specs.Answer.{Answer, Answers, refused, opened, taken, told, delivered}
 use Rattle.reception.specs.Block.{Block, no_block, block, takes, tells, delivers, capacity, open_refusal, take_refusal, after}
 use Rattle.reception.specs.Front.{FrontMeaning}
@@ -23,11 +25,11 @@ use Rattle.trellis.specs.declared.Numbers.{Numbers}
 abbrev pub StandsIn : {K : Type 0} → (K → Survivor) → List K → CReceiver → Block → Type 0
 StandsIn says cs r no_block = (r.«open» == 1) ≡ false
 StandsIn says cs r (block n ss) =
-    (r.«open» ≡ 1) × (judged (numbers_in r.code) ≡ Ok n) × (r.count ≡ length ss) × Holds says cs n ss
+    (r.«open» ≡ 1) × (code_in r.code ≡ Ok n) × (r.count ≡ length ss) × Holds says cs n ss
 
 -- Why the struct itself is refused: no block is open, or its code is none; 0 where neither is so.
 abbrev pub struct_number : CReceiver → ℕ
-struct_number r = cond (r.«open» == 1) (number_of (judged (numbers_in r.code))) 21
+struct_number r = cond (r.«open» == 1) (number_of (code_in r.code)) 21
 
 -- A number that is answered for sure, unless it is 0.
 abbrev pub Sure : ℕ → ℕ → Type 0
@@ -73,7 +75,7 @@ TakesBy says (Some f) ws cs cs' r r' number = Takes says f ws cs cs' r r' number
 -- The number and the struct that an answer to tell gives.
 abbrev pub ToldAs : Answer → CTold → ℕ → CTold → Type 0
 ToldAs (refused k) old number t = (number ≡ k) × (t ≡ old)
-ToldAs (told count worth sole) old number t = (number ≡ 0) × (t ≡ record { worth = worth; count = count; sole = mark_of sole })
+ToldAs (told count worth sole) old number t = (number ≡ 0) × (t ≡ record { worth = worth; count = count; sole = from_bool sole })
 ToldAs (opened symbols) old number t = ⊥
 ToldAs taken old number t = ⊥
 ToldAs (delivered count sole words) old number t = ⊥
@@ -89,7 +91,7 @@ pub record Tells {K : Type 0} (says : K → Survivor) (cs : List K) (r : CReceiv
 abbrev pub DeliveredAs : Answer → CDelivered → List ℕ → ℕ → CDelivered → List ℕ → Type 0
 DeliveredAs (refused k) old buffer number d buffer' = (number ≡ k) × (d ≡ old) × (buffer' ≡ buffer)
 DeliveredAs (delivered count sole words) old buffer number d buffer' =
-    (number ≡ 0) × (d ≡ record { count = count; sole = mark_of sole }) × (buffer' ≡ words ++ drop count buffer)
+    (number ≡ 0) × (d ≡ record { count = count; sole = from_bool sole }) × (buffer' ≡ words ++ drop count buffer)
 DeliveredAs (opened symbols) old buffer number d buffer' = ⊥
 DeliveredAs taken old buffer number d buffer' = ⊥
 DeliveredAs (told count worth sole) old buffer number d buffer' = ⊥
@@ -101,23 +103,7 @@ pub record Delivers {K : Type 0} (says : K → Survivor) (cs : List K) (r : CRec
   -- A struct that stands for a block is answered as the receiver's deliver answers.
   pub answer : (b : Block) → StandsIn says cs r b → (a : Answer) × Answers (length cs) b (delivers (length buffer)) a × DeliveredAs a old buffer number d buffer'
 
--- The code of the open block, or why the struct is refused.
-abbrev pub CodeIn : CReceiver → Result Code ℕ → Type 0
-CodeIn r (Ok k) = (r.«open» ≡ 1) × (judged (numbers_in r.code) ≡ Ok k.numbers)
-CodeIn r (Err e) = (e ≡ struct_number r) × ((e == 0) ≡ false)
-
--- How far the receiver has come.
-abbrev pub progress_of : CReceiver → Code → Progress
-progress_of r k = record { code = Some k; count = r.count }
-
--- What tell finds, before it is written into the struct.
-abbrev pub TellsOf : {K S : Type 0} → (K → Survivor) → (S → ℕ) → List K → CReceiver → Result (S × Bool) ℕ → Type 0
-TellsOf says worth cs r (Ok t) =
-    (struct_number r ≡ 0) × ((b : Block) → StandsIn says cs r b → Answers (length cs) b tells (told r.count (worth t.0) t.1))
-TellsOf says worth cs r (Err e) =
-    ((e == 0) ≡ false) × Sure (struct_number r) e × ((b : Block) → StandsIn says cs r b → Answers (length cs) b tells (refused e))
-
--- What deliver answers and writes, by a progress.
-pub record DeliversOf {K : Type 0} (says : K → Survivor) (cs : List K) (p : Progress) (old : CDelivered) (buffer : List ℕ) (number : ℕ) (d : CDelivered) (buffer' : List ℕ) : Type 0 where
-  pub kept : nat_eq number 0 ≡ false → (d ≡ old) × (buffer' ≡ buffer)
-  pub answer : (b : Block) → StandsBy says cs p b → (a : Answer) × Answers (length cs) b (delivers (length buffer)) a × DeliveredAs a old buffer number d buffer'
+-- How far the receiver has come in its open block, or why the struct is refused.
+abbrev pub ProgressIn : CReceiver → Result Progress Refused → Type 0
+ProgressIn r (Ok p) = (k : Code) × (r.«open» ≡ 1) × (code_in r.code ≡ Ok k.numbers) × (p ≡ record { code = Some k; count = r.count })
+ProgressIn r (Err e) = (refused_number e ≡ struct_number r) × ((refused_number e == 0) ≡ false)

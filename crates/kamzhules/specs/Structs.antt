@@ -1,9 +1,12 @@
 -- What the structs of C stand for.
-use Rattle.std.specs.Prelude.{ℕ, cond, Some, None, Option, ◌==◌}
+use Rattle.std.specs.Prelude.{ℕ, cond, List, Some, None, Option, Result, ◌==◌}
 use Rattle.std.specs.Option.{unwrap_or}
-use Rattle.kamzhules.specs.declared.structs.CCode.{CCode}
-use Rattle.kamzhules.specs.declared.structs.CFault.{CFault}
-use Rattle.kamzhules.specs.declared.structs.CSender.{CSender}
+use Rattle.code.specs.declared.flaw.Flaw.{Flaw}
+use Rattle.code.specs.Flaw.{judged}
+use Rattle.kamzhules.specs.declared.codes.CCode.{CCode}
+use Rattle.kamzhules.specs.declared.refused.CFault.{CFault}
+use Rattle.kamzhules.specs.declared.senders.CSender.{CSender}
+use Rattle.kamzhules.specs.declared.codes.CSymbol.{CSymbol}
 use Rattle.sender.specs.Sender.{Standing}
 use Rattle.trellis.specs.declared.Numbers.{Numbers}
 
@@ -25,6 +28,11 @@ numbers_in k =
       h3 = present k.h3;
     }
 
+-- The numbers of a code from C, if they are a code.
+abbrev pub code_in : CCode → Result Numbers Flaw
+code_in k = judged (numbers_in k)
+
+-- A code as C is told of it.
 abbrev pub code_out : Numbers → CCode
 code_out n =
     record {
@@ -42,9 +50,17 @@ code_out n =
 abbrev pub fault : ℕ → ℕ → ℕ → CFault
 fault number line column = record { number = number; line = line; column = column }
 
+-- The symbol of these phases.
+abbrev pub symbol_out : Numbers → List ℕ → CSymbol
+symbol_out n phases = record { places = n.places; phases = phases }
+
 -- Where the burst of a sender stands; its code is given as numbers.
 abbrev pub standing_of : CSender → Numbers → Standing
 standing_of s n = record { numbers = n; S = s.state; V = s.differential; sent = s.sent }
+
+-- A sender within a burst that stands there.
+abbrev pub sender_within : CCode → Standing → CSender
+sender_within code b = record { code = code; state = b.S; differential = b.V; sent = b.sent; sending = 1 }
 
 -- The sender at that place.
 abbrev pub sender_at : CSender → Standing → CSender

@@ -1,18 +1,16 @@
 // Texts from C: an entry of a book, and what `steps` prints.
 ghost use Rattle.std.specs.Prelude.{◌≡◌, length};
-ghost use Rattle.book.specs.Book.{book_of, codes_of, entry_of};
-ghost use Rattle.kamzhules.specs.Answers.{found, found_code, entry_fault, entry_code, fitted};
-ghost use Rattle.kamzhules.specs.Structs.{code_out};
+ghost use Rattle.std.specs.Result.{result_unwrap_or};
+ghost use Rattle.book.specs.Book.{book_of};
+ghost use Rattle.kamzhules.specs.Answers.{entry_fault, entry_code, fitted};
+ghost use Rattle.kamzhules.specs.Refused.{fault_in};
+ghost use Rattle.kamzhules.specs.declared.codes.CCode.{CCode};
 ghost use Rattle.listing.specs.Listing.{listing_of};
 
-use crate::codes::fault;
-use crate::structs::{CCode, CFault};
+use crate::codes::CCode;
+use crate::refused::{CFault, Refused};
 use book::Book;
 use listing::listing;
-use trellis::Numbers;
-
-// The book has no such entry.
-const NOTHING: u8 = 255;
 
 // The entry of a book's text, from 0.
 #[unsafe(no_mangle)]
@@ -20,41 +18,23 @@ pub extern "C" fn kz_entry(text: &[u8], entry: usize, code: &mut CCode) -> CFaul
     ensures fault { result ≡ entry_fault (book_of text.now) entry }
     ensures code { code.new ≡ entry_code (book_of text.now) entry code.old }
 {
-    let mut book = Book::new();
-    match book.load(text) {
-        Ok(_) => fetched(&book, entry, code),
-        Err(refused) => fault(refused.number(), refused.line(), refused.column()),
-    }
-}
-
-fn fetched(book: &Book, entry: usize, code: &mut CCode) -> CFault
-    ensures fault { result ≡ found (entry_of (codes_of book.now) entry) }
-    ensures code { code.new ≡ found_code (entry_of (codes_of book.now) entry) code.old }
-{
-    match book.get(entry) {
-        Some(found) => {
-            *code = code_out(found.numbers);
-            fault(0, 0, 0)
+    match entry_of(text, entry) {
+        Ok(found) => {
+            *code = found;
+            CFault::default()
         }
-        None => fault(NOTHING, 0, 0),
+        Err(refused) => CFault::from(refused),
     }
 }
 
-// The numbers, with 0 for an absent polynomial.
-fn code_out(numbers: Numbers) -> CCode
-    ensures { result ≡ code_out numbers }
+fn entry_of(text: &[u8], entry: usize) -> Result<CCode, Refused>
+    ensures fault { fault_in result ≡ entry_fault (book_of text.now) entry }
+    ensures code { (old : CCode) → result_unwrap_or result old ≡ entry_code (book_of text.now) entry old }
 {
-    CCode {
-        places: numbers.places,
-        phases: numbers.phases,
-        offset: numbers.offset,
-        checked: numbers.checked,
-        memory: numbers.memory,
-        h0: numbers.h0,
-        h1: numbers.h1,
-        h2: numbers.h2.unwrap_or(0),
-        h3: numbers.h3.unwrap_or(0),
-    }
+    let mut book = Book::new();
+    book.load(text)?;
+    let code = book.get(entry).ok_or(Refused::NoEntry)?;
+    Ok(CCode::from(code.numbers))
 }
 
 // What `steps` prints for the text, into the buffer if it fits; its length in any case.
@@ -74,7 +54,7 @@ fn fit(text: &[u8], buffer: &mut [u8]) -> usize
 {
     let size = text.len();
     if size <= buffer.len() {
-        buffer[0..size].copy_from_slice(text);
+        buffer[..size].copy_from_slice(text);
     }
     size
 }
