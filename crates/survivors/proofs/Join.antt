@@ -2,6 +2,7 @@
 use Rattle.std.proofs.Common.{◌≡◌, ℕ, ◌<◌, ◌≤◌, min, true, false, cond, ltb, ◌⊎◌, sym, refl, ◌∙◌, subst, inl, inr, ⊎_elim, arith}
 use Rattle.std.proofs.Math.Logic.{⊎_swap}
 use Rattle.std.proofs.lemmas.Bool.{false≢true, ltb-true, ltb-false, cases_lt, cond_both}
+use Rattle.std.proofs.lemmas.Bool.Decides.{same_from_decides}
 use Rattle.survivors.specs.Best.{Survivor, Best}
 
 -- Two survivors of equal worth: the lower label, and none is alone.
@@ -36,6 +37,23 @@ best_one {f} c is there here = record {
   set_sole = λ s. (there s, λ z e w. e);
   sole_set = λ u only. here u;
 }
+
+mark_goes : {P : ℕ → Type 0} {f : ℕ → ℕ} {U : ℕ → Type 0} {a b : Survivor} → Best P f U a → Best P f U b → a.worth ≡ b.worth → a.label ≡ b.label → a.sole ≡ true → b.sole ≡ true
+mark_goes {U = U} r s worths labels e =
+    s.sole_set (subst U labels (r.set_sole e).0) (λ z p w. (r.set_sole e).1 z p (w ∙ sym worths) ∙ labels)
+
+-- Two best survivors of the same labels are the same.
+pub best_sole_value : {P : ℕ → Type 0} {f : ℕ → ℕ} {U : ℕ → Type 0} {a b : Survivor} → Best P f U a → Best P f U b → (a.worth ≡ b.worth) × (a.label ≡ b.label) × (a.sole ≡ b.sole)
+best_sole_value {f = f} {a = a} {b = b} r s =
+    let up : a.worth ≤ f b.label = r.least b.label s.inside in
+    let down : b.worth ≤ f a.label = s.least a.label r.inside in
+    let a-has = r.has in
+    let b-has = s.has in
+    let worths : a.worth ≡ b.worth = omega arith in
+    let one : a.label ≤ b.label = r.lowest b.label s.inside (s.has ∙ sym worths) in
+    let two : b.label ≤ a.label = s.lowest a.label r.inside (r.has ∙ worths) in
+    let labels : a.label ≡ b.label = omega arith in
+    (worths, labels, same_from_decides {P = a.sole ≡ true} a.sole b.sole (λ e. e, λ e. e) (mark_goes s r (sym worths) (sym labels), mark_goes r s worths labels))
 
 -- Of two kinds of labels, a best one of the first is best of both where it has less worth than that of the second.
 less_best : {P Q : ℕ → Type 0} {f : ℕ → ℕ} {U : ℕ → Type 0} {a b : Survivor} → Best P f U a → Best Q f U b → a.worth < b.worth → Best (λ z. P z ⊎ Q z) f U a

@@ -1,5 +1,6 @@
 -- The way back through the rows stays at states and labels of the code, and looks at nothing else.
 use Rattle.std.proofs.Common.{◌≡◌, ℕ, zero, suc, ◌^◌, ◌<◌, ◌≤◌, List, [], ◌∷◌, ◌++◌, length, refl, ap, ◌∙◌, add-one, arith}
+use lib.Seq.{append_snoc}
 use Rattle.std.proofs.lemmas.List.{length_push}
 use Rattle.reception.specs.Worth.{Scores}
 use Rattle.survivors.specs.Best.{Survivor}
@@ -14,6 +15,10 @@ length-trace n row zero E = refl
 length-trace n row (suc k) E =
     let z = (row (suc k) E).label in
     length_push (trace n row k (back n E z)) z ∙ add-one _ ∙ ap suc (length-trace n row k (back n E z))
+
+-- One step of the way back: the label is put before those that were read.
+pub trace_more : (n : Numbers) (row : ℕ → ℕ → Survivor) (k E : ℕ) (read : List ℕ) → trace n row (suc k) E ++ read ≡ trace n row k (back n E (row (suc k) E).label) ++ ((row (suc k) E).label ∷ read)
+trace_more n row k E read = append_snoc (trace n row k (back n E (row (suc k) E).label)) (row (suc k) E).label read
 
 module _ (n : Numbers) (ss : List Scores) (row : ℕ → ℕ → Survivor) (rows : Rows n ss row) where
   -- Each label in a row is one of the code's, and so is the state to which it leads back.

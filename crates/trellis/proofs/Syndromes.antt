@@ -5,8 +5,8 @@ use Rattle.std.proofs.lemmas.Bool.{cases_Bool, cases_eq, cond-true, cond-false}
 use Rattle.trellis.specs.declared.Row.{Row}
 use Rattle.trellis.specs.Label.{gather, put, Agree}
 use Rattle.trellis.specs.Parity.{syndrome}
-use Rattle.trellis.proofs.Gather.{low_bit, high_bits, double, bit_below, mod_double, put_marked, put_other}
-use Rattle.trellis.proofs.OneLabel.{put_sole}
+use Rattle.trellis.proofs.Gather.{count, low_bit, high_bits, double, bit_below, mod_double, gather-put, put_marked, put_other, put-below}
+use Rattle.trellis.proofs.OneLabel.{agree-put, put_sole}
 
 pub syndrome-zero : (ps : List ℕ) → syndrome ps 0 ≡ 0
 syndrome-zero [] = refl
@@ -138,3 +138,8 @@ agree_self marked (r ∷ rs) z = (elim (marked r) as (λ b. cond b (Unit {0}) (z
 -- To put back what is read changes nothing.
 pub put-gather : (marked : Row → Bool) (rs : List Row) (z : ℕ) → z < 2 ^ length rs → put marked rs (gather marked rs z) z ≡ z
 put-gather marked rs z h = sym (put_sole marked rs (gather marked rs z) z z h refl (agree_self marked rs z))
+
+-- Only as many bits of the number matter as there are marked rows.
+pub put-mod : (marked : Row → Bool) (rs : List Row) (t z : ℕ) → put marked rs (t % 2 ^ count marked rs) z ≡ put marked rs t z
+put-mod marked rs t z =
+    sym (put_sole marked rs (t % 2 ^ count marked rs) z (put marked rs t z) (put-below marked rs t z) (gather-put marked rs t z) (agree-put marked rs t z))

@@ -35,6 +35,10 @@ pub record Accepted (n : Numbers) : Type 0 where
 pub accept : (n : Numbers) → limit_fault n ≡ 0 → polynomial_fault n ≡ 0 → parity_turns n ≡ false → Accepted n
 accept n l p z = record { sets = within n l; sender = sends n l p z; check = checked n l p }
 
+-- x xor y, and y with h more
+pub xor_cancel : (a b h : ℕ) → bit_xor (bit_xor a b) (bit_xor b h) ≡ bit_xor a h
+xor_cancel a b h = xor_assoc a b (bit_xor b h) ∙ ap (bit_xor a) (sym (xor_assoc b b h) ∙ ap (λ (k : ℕ). bit_xor k h) (xor_self b))
+
 pub xor-back : (a h : ℕ) → bit_xor (bit_xor a h) h ≡ a
 xor-back a h = xor_assoc a h h ∙ ap (bit_xor a) (xor_self h) ∙ xor_zero_r a
 
