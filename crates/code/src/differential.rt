@@ -30,9 +30,14 @@ impl Code {
     pub fn word_between(self, before: Label, label: Label) -> Word
         ensures { result.0 ≡ word_between self.numbers before.0 label.0 }
     {
-        let modulus = self.numbers.phases / self.step();
-        let rise = difference(modulus, self.differential(before), self.differential(label));
-        Word(self.with_differential(rise, label).0 / 2)
+        // The step and the rows are found once: `differential` and `with_differential` find them anew, and a block took twice the
+        // instructions to deliver by them.
+        let step = self.step();
+        let rows = self.rows();
+        let modulus = self.numbers.phases / step;
+        let number = gathered(rows, step, label.0) as u8;
+        let rise = difference(modulus, gathered(rows, step, before.0) as u8, number);
+        Word((replaced(rows, step, rise, label.0) / 2) as u16)
     }
 }
 
@@ -47,10 +52,19 @@ fn difference(modulus: u8, before: u8, number: u8) -> u8
 }
 
 // The lowest bit of the number.
-fn lowest(number: u16) -> u32
+fn lowest(number: u8) -> u32
     ensures { result ≡ number % 2 }
 {
     (number % 2) as u32
+}
+
+// The weight, if the bit is 1. With a product in its place the rows that do not turn take as long as the others, and a
+// differential number takes half as long again.
+fn weighed(weight: u32, bit: u16) -> u32
+    requires { bit < 2 }
+    ensures { result ≡ weight * bit }
+{
+    if bit == 1 { weight } else { 0 }
 }
 
 // The number that the label bits form whose rows turn by `least` or more. One bit of the label goes with each row, here and
@@ -64,7 +78,7 @@ fn gathered(rows: &[Row], least: u8, label: u16) -> u32
     let mut number = 0u32;
     for row in rows {
         if least <= row.turn {
-            number += weight * lowest(rest);
+            number += weighed(weight, rest % 2);
             weight *= 2;
         }
         rest /= 2;
@@ -83,10 +97,10 @@ fn replaced(rows: &[Row], least: u8, number: u8, label: u16) -> u32
     let mut made = 0u32;
     for row in rows {
         if least <= row.turn {
-            made += weight * lowest(digits as u16);
+            made += weight * lowest(digits);
             digits /= 2;
         } else {
-            made += weight * lowest(rest);
+            made += weighed(weight, rest % 2);
         }
         weight *= 2;
         rest /= 2;

@@ -1,4 +1,3 @@
-use Rattle.std.proofs.Common.{ℕ, ◌*◌, ap}
 use Rattle.std.proofs.lemmas.Bool.{le-leb, lt-leb}
 use Rattle.trellis.specs.Label.{turns_by}
 use Rattle.code.proofs.Loops.{gathered_marked, gathered_other}
@@ -10,7 +9,7 @@ loop-row-preserved c =
     elim c.if-least-row.branch [
       | then-least-row w ↦
           simp (w.number-is, w.weight-is) (gathered_marked (turns_by c.args.least) c.args.rows.now c.loop-row.row-index _ c.loop-row-test.true
-          _ _ _ _ _ (le-leb _ _ w.if-least-row.true) (ap (λ (b : ℕ). c.loop-row.weight * b) w.lowest.ensures) c.loop-row.invariant)
+          _ _ _ _ _ (le-leb _ _ w.if-least-row.true) w.weighed-number.ensures c.loop-row.invariant)
       | else-least-row w ↦
           simp (w.number-is, w.weight-is) (gathered_other (turns_by c.args.least) c.args.rows.now c.loop-row.row-index _ c.loop-row-test.true
           _ _ _ _ (lt-leb _ _ w.if-least-row.false) c.loop-row.invariant)

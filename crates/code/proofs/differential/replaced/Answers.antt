@@ -13,5 +13,5 @@ loop-row-preserved c =
           _ _ _ _ _ _ _ (le-leb _ _ w.if-least-row.true) (ap (λ (b : ℕ). c.loop-row.weight * b) w.lowest.ensures) c.loop-row.invariant)
       | else-least-row w ↦
           simp (w.digits-is, w.made-is) (replaced_other (turns_by c.args.least) c.args.rows.now c.loop-row.row-index _ c.loop-row-test.true
-          _ _ _ _ _ _ _ (lt-leb _ _ w.if-least-row.false) (ap (λ (b : ℕ). c.loop-row.weight * b) w.lowest-else-least-row.ensures) c.loop-row.invariant)
+          _ _ _ _ _ _ _ (lt-leb _ _ w.if-least-row.false) w.weighed-made.ensures c.loop-row.invariant)
     ]
