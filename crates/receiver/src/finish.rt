@@ -2,10 +2,12 @@
 ghost use Rattle.std.specs.Prelude.{◌≡◌, ◌^◌, ◌<◌, ◌≤◌, length};
 ghost use Rattle.receiver.specs.Cells.{survivor, survivors};
 ghost use Rattle.receiver.specs.EndState.{end_at, BestEnds, BlockEnd};
+ghost use Rattle.receiver.specs.Grouped.{better};
 
 use crate::cell::{Cell, Kept, row_at};
 use crate::sizes::states_of;
 use code::Code;
+use fronts::Score;
 
 // The best end state after `count` symbols, with its state in the place of the label. There is none where the cells have no
 // such row.
@@ -28,7 +30,7 @@ pub(crate) fn best_end<K: Kept>(row: &[K]) -> Option<Cell<K::Score>>
     let (first, others) = row.split_first()?;
     let mut best = end_at(*first, 0);
     for (place, kept) in others.iter().enumerate() {
-        best = best.better(end_at(*kept, place as u16 + 1));
+        join_end(&mut best, end_at(*kept, place as u16 + 1));
     }
     Some(best)
 }
@@ -41,4 +43,21 @@ fn end_at<K: Kept>(kept: K, state: u16) -> Cell<K::Score>
         label: state,
         ..kept.cell()
     }
+}
+
+// Joins an end state to the best of those before it, which mostly stays.
+fn join_end<S: Score>(best: &mut Cell<S>, end: Cell<S>)
+    ensures { survivor S.Score.worth best.new ≡ better (survivor S.Score.worth best.old) (survivor S.Score.worth end) }
+{
+    if !best.score.less(end.score) {
+        join_no_worse(best, end);
+    }
+}
+
+// The same where the state is no worse, as few of a row are.
+#[cold]
+fn join_no_worse<S: Score>(best: &mut Cell<S>, end: Cell<S>)
+    ensures { survivor S.Score.worth best.new ≡ better (survivor S.Score.worth best.old) (survivor S.Score.worth end) }
+{
+    *best = best.better(end);
 }

@@ -13,7 +13,7 @@ loop-place-preserved g c =
     let more = c.loop-place-test.true in
     best_more g.K.Kept.says c.args.row.now (c.loop-place.place + 1) c.index-others-place.result _ _ _ (omega arith)
     (read_behind g.K.Kept.says c.args.row.now c.in_ok-first.first.now c.in_ok-first.others.now c.loop-place.place c.index-others-place.result is c.index-others-place.is)
-    c.end_at.ensures c.better-best.ensures c.loop-place.invariant
+    c.end_at.ensures c.join_end.ensures c.loop-place.invariant
 
 pub returns : goal.returns
 returns g c =
