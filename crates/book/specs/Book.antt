@@ -36,6 +36,11 @@ book_of text =
 abbrev pub codes_held : ArrayVec Entry → List Numbers
 codes_held entries = map numbers_at entries.items
 
+-- The codes of entries that were filled, or the fault that ended it.
+abbrev pub filled : ArrayVec Entry → Result Unit Fault → Result (List Numbers) Fault
+filled entries (Ok done) = Ok (codes_held entries)
+filled entries (Err fault) = Err fault
+
 -- The codes of a book, in order.
 abbrev pub codes_of : Book → List Numbers
 codes_of book = codes_held book.entries

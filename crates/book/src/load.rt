@@ -1,7 +1,7 @@
 // Books loaded from a text.
 ghost use Rattle.std.specs.Prelude.{◌≡◌, [], length};
 ghost use Rattle.std.specs.Result.{result_map_both, result_unwrap_or};
-ghost use Rattle.book.specs.Book.{codes_of, codes_held, code_lines, book_of};
+ghost use Rattle.book.specs.Book.{codes_of, code_lines, filled, book_of};
 ghost use Rattle.book.specs.Line.{unchanged};
 
 use crate::entry::Entry;
@@ -17,30 +17,34 @@ impl Book {
         ensures answer { result ≡ result_map_both length unchanged (book_of text.now) }
     {
         self.entries.clear();
-        self.entries = entries_of(text)?;
+        if let Err(fault) = fill(&mut self.entries, text) {
+            self.entries.clear();
+            return Err(fault);
+        }
         Ok(self.entries.len())
     }
 }
 
-// The entries of a text.
+// Adds the entries of a text; after a fault some may be there.
 #[tactic(auto, unfolding(crate::specs::Book::book_of))]
-fn entries_of(text: &[u8]) -> Result<ArrayVec<Entry, 32>, Fault>
-    ensures { result_map_both codes_held unchanged result ≡ book_of text.now }
+fn fill(entries: &mut ArrayVec<Entry, 32>, text: &[u8]) -> Result<(), Fault>
+    requires { entries.old.items ≡ [] }
+    ensures { filled entries.new result ≡ book_of text.now }
 {
     if text.len() > 4096 {
         return Err(Fault::TooLong);
     }
     match text.strip_prefix(b"l m q c v h0 h1 h2 h3\n") {
-        Some(lines) => code_lines(lines),
+        Some(lines) => fill_lines(entries, lines),
         None => Err(Fault::Names),
     }
 }
 
-// The entries of the lines after the first.
-fn code_lines(text: &[u8]) -> Result<ArrayVec<Entry, 32>, Fault>
-    ensures { result_map_both codes_held unchanged result ≡ code_lines 32 2 text.now }
+// The same of the lines after the first.
+fn fill_lines(entries: &mut ArrayVec<Entry, 32>, text: &[u8]) -> Result<(), Fault>
+    requires { entries.old.items ≡ [] }
+    ensures { filled entries.new result ≡ code_lines 32 2 text.now }
 {
-    let mut entries = ArrayVec::new();
     let mut reader = Reader {
         rest: text,
         line: 2,
@@ -52,5 +56,5 @@ fn code_lines(text: &[u8]) -> Result<ArrayVec<Entry, 32>, Fault>
         let code = reader.code()?;
         entries.push(Entry { code });
     }
-    Ok(entries)
+    Ok(())
 }

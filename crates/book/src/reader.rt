@@ -18,7 +18,6 @@ pub(crate) struct Reader<'a> {
 impl<'a> Reader<'a> {
     // Column 1 to 9, with the space after it unless it is the last.
     #[tactic(auto, unfolding(crate::specs::Column::column, crate::specs::Column::space))]
-    #[inline(never)]
     pub(crate) fn column(&mut self, column: u8) -> Result<Token<'a>, Fault>
         ensures { Reads self.old column_of result self.new (column_at self.old.line column self.old.rest.now) }
     {

@@ -1,7 +1,7 @@
 // The numbers that columns stand for.
-ghost use Rattle.std.specs.Prelude.{◌≡◌, ◌^◌, ◌<◌, ◌≤◌, take};
+ghost use Rattle.std.specs.Prelude.{◌≡◌, ◌≤◌};
 ghost use Rattle.book.specs.Token.{column_of};
-ghost use Rattle.book.specs.Value.{digit as digit_of, value as value_of, small, polynomial};
+ghost use Rattle.book.specs.Value.{digit as digit_of, decimal_value, octal_value, small, polynomial};
 
 use crate::token::Token;
 
@@ -11,7 +11,7 @@ pub(crate) fn small(token: Token) -> u8
     ensures { result ≡ small (column_of token.entry) }
 {
     match token {
-        Token::Decimal(part) => value(part.bytes, 2, 10) as u8,
+        Token::Decimal(part) => decimal_value(part.bytes),
         _ => 0,
     }
 }
@@ -22,33 +22,40 @@ pub(crate) fn polynomial(token: Token) -> Option<u16>
     ensures { result ≡ polynomial (column_of token.entry) }
 {
     match token {
-        Token::Octal(part) => Some(value(part.bytes, 3, 8)),
+        Token::Octal(part) => Some(octal_value(part.bytes)),
         _ => None,
     }
 }
 
-// The value of the first digits, of `most` at most, in a base.
-#[inline(never)]
-fn value(bytes: &[u8], most: usize, base: u16) -> u16
-    requires few { most ≤ 3 }
-    requires small { base ≤ 10 }
-    ensures value { result ≡ value_of base (take most bytes.now) }
-    ensures below { result < 10 ^ most }
+fn decimal_value(bytes: &[u8]) -> u8
+    ensures { result ≡ decimal_value bytes.now }
 {
-    let digits = &bytes[..most.min(bytes.len())];
-    let mut value = 0;
-    for byte in digits {
-        value = value * base + digit(*byte);
+    match bytes {
+        [] => 0,
+        [ones] => digit(*ones),
+        [tens, ones, ..] => digit(*tens) * 10 + digit(*ones),
     }
-    value
 }
 
-fn digit(byte: u8) -> u16
+fn octal_value(bytes: &[u8]) -> u16
+    ensures { result ≡ octal_value bytes.now }
+{
+    match bytes {
+        [] => 0,
+        [low] => u16::from(digit(*low)),
+        [high, low] => u16::from(digit(*high)) * 8 + u16::from(digit(*low)),
+        [high, middle, low, ..] => {
+            (u16::from(digit(*high)) * 8 + u16::from(digit(*middle))) * 8 + u16::from(digit(*low))
+        }
+    }
+}
+
+fn digit(byte: u8) -> u8
     ensures value { result ≡ digit_of byte }
     ensures high { result ≤ 9 }
 {
     match byte {
-        b'0'..=b'9' => u16::from(byte - b'0'),
+        b'0'..=b'9' => byte - b'0',
         _ => 0,
     }
 }

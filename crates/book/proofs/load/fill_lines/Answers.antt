@@ -3,10 +3,10 @@ use Rattle.std.proofs.lemmas.Result.{err_from_is_err_and}
 use Rattle.std.proofs.lemmas.Bool.{eqb-false}
 use Rattle.std.proofs.lemmas.List.{map_push}
 use Rattle.book.proofs.Lines.{after_none, refused, one_more}
-use Rattle.book.proofs.load.code_lines.Goals as goal
+use Rattle.book.proofs.load.fill_lines.Goals as goal
 
 pub loop-reader-init : goal.loop-reader-init
-loop-reader-init c = rw c.new-entries.ensures (record {
+loop-reader-init c = rw c.requires (record {
   most = omega arith;
   line = omega arith;
   codes = after_none _;

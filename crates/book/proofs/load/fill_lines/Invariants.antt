@@ -1,7 +1,7 @@
 use Rattle.std.proofs.Common.{◌≡◌, ◌+◌, ◌-◌, ◌≤◌, length}
 use Rattle.book.specs.Book.{codes_held, code_lines}
 use Rattle.book.proofs.Lines.{after}
-use Rattle.book.proofs.load.code_lines.Given as goal
+use Rattle.book.proofs.load.fill_lines.Given as goal
 
 -- The codes that are held, before those of what is left, are the codes of all lines.
 abbrev pub invariant-loop-reader : goal.invariant-loop-reader
