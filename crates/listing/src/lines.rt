@@ -1,10 +1,9 @@
 // Written lines, in fixed memory.
-ghost use Rattle.std.specs.Prelude.{◌≡◌, ◌+◌, ◌<◌, ◌≤◌, length};
+ghost use Rattle.std.specs.Prelude.{◌≡◌, ◌+◌, ◌<◌, ◌≤◌, [], ◌∷◌, length, decimal};
 ghost use Rattle.listing.specs.Listing.{cell};
 ghost use Rattle.listing.specs.Lines.{written, Appends};
 
 use arrayvec::ArrayString;
-use itoa::Buffer;
 
 #[derive(Drop, Debug, PartialEq, Eq)]
 pub struct Lines {
@@ -35,9 +34,35 @@ impl Lines {
         requires ascii { after < 128 }
         ensures { Appends self.old (cell n after) 4 self.new }
     {
-        // `write!` would answer a Result, and no clause of it says that what fits is written.
-        let mut digits = Buffer::new();
-        self.text.push_str(digits.format(n));
+        self.decimal(n);
         self.text.push(after);
+    }
+
+    // Digit by digit: a copy of one to three bytes takes longer, and `write!` would answer a Result, of which no clause says that
+    // what fits is written.
+    fn decimal(&mut self, n: u8)
+        requires { length (written self.old) + 3 ≤ 1024 }
+        ensures { Appends self.old (decimal n) 3 self.new }
+    {
+        match n {
+            0..=9 => self.digit(n),
+            10..=99 => {
+                self.digit(n / 10);
+                self.digit(n % 10);
+            }
+            _ => {
+                self.digit(n / 10 / 10);
+                self.digit(n / 10 % 10);
+                self.digit(n % 10);
+            }
+        }
+    }
+
+    fn digit(&mut self, digit: u8)
+        requires room { length (written self.old) < 1024 }
+        requires below { digit < 10 }
+        ensures { Appends self.old ((48 + digit) ∷ []) 1 self.new }
+    {
+        self.text.push(char::from(b'0' + digit));
     }
 }
