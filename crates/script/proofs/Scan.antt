@@ -1,34 +1,26 @@
--- The first empty line, found by each byte beside the byte before it.
-use Rattle.std.proofs.Common.{◌≡◌, ℕ, suc, ◌+◌, ◌≤◌, Bool, true, false, not, cond, ◌&&◌, eqb, ltb, List, [], ◌∷◌, length, Some, None, refl, arith}
-use Rattle.std.specs.List.{position, position_or_len, zip}
-use Rattle.std.specs.Option.{unwrap_or}
+-- Where the first empty line is: what is passed and what is left give the place.
+use Rattle.std.proofs.Common.{◌≡◌, ℕ, ◌+◌, ◌<◌, ◌≤◌, Bool, true, false, not, cond, ◌&&◌, eqb, ltb, List, length, get_or, drop, ◌∙◌, arith}
+use Rattle.std.proofs.lemmas.Bool.{cond-true, cond-false}
 use Rattle.std.proofs.lemmas.Bool.Decides.{nat_tests}
+use Rattle.std.proofs.lemmas.List.{at_drop_more, at_drop_all}
 use Rattle.std.proofs.lemmas.List.Sums.{prefix_len-le-length}
-use Rattle.std.proofs.lemmas.Slice.Zip.{length-zip}
 use Rattle.script.specs.Lines.{empty_line, first_size}
 
-abbrev ends : ℕ × ℕ → Bool
-ends b = eqb b.0 10 && eqb b.1 10
+-- A search that counts from i on, by what it finds in the rest.
+abbrev pub Passed : (List ℕ → ℕ) → (List ℕ → ℕ) → List ℕ → ℕ → Type 0
+Passed rest whole text i = i + rest (drop i text) ≡ whole text
 
-one_more : (t : Bool) (m n : ℕ) → m ≡ n → cond (not t) (1 + m) 0 ≡ cond t 0 (suc n)
-one_more true m n e = refl
-one_more false m n e = omega arith
+module _ (text : List ℕ) (i : ℕ) (within : i < length text) where
+  pub empty_here : (begins : Bool) → Passed (empty_line begins) (empty_line true) text i → (begins && eqb (get_or text i 0) 10) ≡ true → i ≡ empty_line true text
+  empty_here begins h e =
+      let here = at_drop_more (empty_line begins) text i 0 within ∙ cond-true (begins && eqb (get_or text i 0) 10) _ _ e in omega arith
 
-by_pairs : (a : ℕ) (text : List ℕ) → position_or_len ends (zip (a ∷ text) text) ≡ empty_line (eqb a 10) text
-by_pairs a [] = refl
-by_pairs a (b ∷ bs) = one_more (eqb a 10 && eqb b 10) _ _ (by_pairs b bs)
+  pub empty_more : (begins : Bool) → Passed (empty_line begins) (empty_line true) text i → (begins && eqb (get_or text i 0) 10) ≡ false → Passed (empty_line (eqb (get_or text i 0) 10)) (empty_line true) text (i + 1)
+  empty_more begins h e =
+      let here = at_drop_more (empty_line begins) text i 0 within ∙ cond-false (begins && eqb (get_or text i 0) 10) _ _ e in omega arith
 
-found_or_all : (n m k : ℕ) → n ≤ m → m ≡ k → unwrap_or (cond (ltb n m) (Some n) None) k ≡ n
-found_or_all n m k h e = grind (arith, nat_tests)
-
-pub book_size : (text : List ℕ) → (unwrap_or (position ends (zip (10 ∷ text) text)) (length text) ≡ empty_line true text) × (empty_line true text ≤ length text)
-book_size text =
-    let pairs = zip (10 ∷ text) text in
-    let many = length-zip (10 ∷ text) text in
-    let most = prefix_len-le-length (λ b. not (ends b)) pairs in
-    let is = by_pairs 10 text in
-    let found = found_or_all (position_or_len ends pairs) (length pairs) (length text) most (omega arith) in
-    (cc, omega arith)
+pub empty_all : (text : List ℕ) (i : ℕ) (begins : Bool) → length text ≤ i → i ≤ length text → Passed (empty_line begins) (empty_line true) text i → length text ≡ empty_line true text
+empty_all text i begins past within h = let none = at_drop_all (empty_line begins) text i past in omega arith
 
 line_within : (n m : ℕ) → n ≤ m → cond (ltb n m) (n + 1) n ≤ m
 line_within n m h = grind (arith, nat_tests)

@@ -1,35 +1,31 @@
 // A script: the text of a book, an empty line, and one call to a line.
-ghost use Rattle.std.specs.Prelude.{◌≡◌, ◌<◌, ◌≤◌, true, ◌&&◌, ◌∷◌, length, drop, position, ◌==◌};
-ghost use Rattle.std.specs.List.{zip};
+ghost use Rattle.std.specs.Prelude.{◌≡◌, ◌<◌, ◌≤◌, true, ◌&&◌, length, drop, position, ◌==◌};
 ghost use Rattle.script.specs.Lines.{empty_line, first_call, first_size, next_call};
 ghost use Rattle.std.specs.Iterator.{at_most};
 
 use crate::call::{Call, read_call};
-use std::iter;
 
 // How many bytes stand before the first empty line; all of them if there is none.
 pub fn book_size(text: &[u8]) -> usize
     ensures value { result ≡ empty_line true text.now }
     ensures within { result ≤ length text.now }
 {
-    empty_line(text).unwrap_or(text.len())
+    // Not by `position` over each byte beside the one before it, which takes half as long again.
+    let mut begins = true;
+    for (at, byte) in text.iter().enumerate() {
+        if is_empty_line(begins, *byte) {
+            return at;
+        }
+        begins = *byte == b'\n';
+    }
+    text.len()
 }
 
-// Where the first empty line is. The text begins as a line does, behind a line feed.
-fn empty_line(text: &[u8]) -> Option<usize>
-    ensures { result ≡ position (λ b. b.0 == 10 && b.1 == 10) (zip (10 ∷ text.now) text.now) }
+// A line feed where a line begins.
+fn is_empty_line(begins: bool, byte: u8) -> bool
+    ensures { result ≡ (begins && byte == 10) }
 {
-    let before = iter::once(b'\n').chain(text.iter().copied());
-    before
-        .zip(text)
-        .position(|(before, byte)| is_empty_line(before, *byte))
-}
-
-// A line feed behind another.
-fn is_empty_line(before: u8, byte: u8) -> bool
-    ensures { result ≡ (before == 10 && byte == 10) }
-{
-    before == b'\n' && byte == b'\n'
+    begins && byte == b'\n'
 }
 
 // The call that the first line is, if it is one, and the text behind that line. A line that is not ended is no call.
