@@ -106,22 +106,25 @@ impl CReceiver {
     ) -> Result<CDelivered, Refused>
         ensures { (old : CDelivered) → Delivers K.Kept.says cells.now self.now old buffer.old (number_in result) (result_unwrap_or result old) buffer.new }
     {
+        // The struct is judged before the array is made, which would be most of what a refused call costs.
+        let progress = self.progress()?;
         let mut words = [Word(0); WORDS];
         let room = buffer.len().min(WORDS);
-        self.deliver_through(cells, &mut words[..room], buffer)
+        self.deliver_through(progress, cells, &mut words[..room], buffer)
     }
 
-    // The same, through words that are lent.
+    // The same from there on, through words that are lent.
     fn deliver_through<K: Kept>(
         &self,
+        progress: Progress,
         cells: &[K],
         words: &mut [Word],
         buffer: &mut [u16],
     ) -> Result<CDelivered, Refused>
-        requires { length words.old ≡ min (length buffer.old) 255 }
+        requires progress { ProgressIn self.now (Ok progress) }
+        requires words { length words.old ≡ min (length buffer.old) 255 }
         ensures { (old : CDelivered) → Delivers K.Kept.says cells.now self.now old buffer.old (number_in result) (result_unwrap_or result old) buffer.new }
     {
-        let progress = self.progress()?;
         let (count, sole) = receiver::deliver(cells, progress, words)?;
         let written = count.min(words.len());
         copy_words(&words[..written], buffer);

@@ -2,44 +2,31 @@ use Rattle.std.proofs.Common.{◌≡◌, ℕ, ◌≤◌, List, ◌++◌, length,
 use Rattle.std.proofs.lemmas.List.{length-take-le, take-map}
 use Rattle.code.specs.declared.units.Word.{Word}
 use Rattle.kamzhules.specs.declared.refused.Refused.TheVariants.{Receiver}
-use Rattle.kamzhules.specs.Refused.{refused_number}
 use Rattle.receiver.specs.Delivery.{numbers_in}
 use Rattle.receiver.specs.Refusal.{refusal_number}
-use Rattle.reception.specs.Answer.{delivered, refused, DeliverAnswers}
+use Rattle.reception.specs.Answer.{delivered, refused}
 use Rattle.kamzhules.proofs.Delivering.{any_room, delivered_fits}
-use Rattle.kamzhules.proofs.Standing.{answered, barred, not_barred, passed_up, stands_by}
+use Rattle.kamzhules.proofs.Standing.{answered, not_barred, passed_up, stands_by}
 use Rattle.kamzhules.proofs.receivers.CReceiver.deliver_through.Goals as goal
 
 copied : (ws : List Word) (buffer : List ℕ) (k : ℕ) → k ≤ length ws → numbers_in (take k ws) ++ drop (length (take k ws)) buffer ≡ take k (numbers_in ws) ++ drop k buffer
 copied ws buffer k h = simp (length-take-le k ws h, take-map (λ (x : Word). x.0) k ws) refl
 
-pub returns-in_err-progress : goal.returns-in_err-progress
-returns-in_err-progress g c = λ old.
-    let e = c.in_err-progress.field-0.0 in
-    let i = c.in_err-progress.ensures in
-    let due = DeliverAnswers (length c.args.buffer.now) in
-    rw (passed_up c.from_residual.result e c.from_residual.ensures)
-    (record {
-      sure = λ _. i.0;
-      kept = λ _. (refl, refl);
-      answer = λ b s. (refused (refused_number e), barred g.K.Kept.says c.args.cells.now c.args.self.now b (refused_number e) due (λ a h. h) s i.0 i.1, (refl, refl, refl));
-    })
-
 pub returns-in_err-count : goal.returns-in_err-count
 returns-in_err-count g c = λ old.
     let r = c.args.self.now in
-    let p = c.in_ok-progress.progress in
-    let i = c.in_ok-progress.ensures in
+    let p = c.args.progress in
+    let i = c.requires.progress in
     let e = c.in_err-count.field-0.0 in
     let cells = c.args.cells.now in
-    rw (passed_up c.from_residual-in_err-count.result (Receiver e) c.from_residual-in_err-count.ensures)
+    rw (passed_up c.from_residual.result (Receiver e) c.from_residual.ensures)
     (record {
       sure = not_barred r p i;
       kept = λ _. (refl, refl);
       answer = λ b s.
           let by = stands_by r p i g.K.Kept.says cells b s in (
             refused (refusal_number e),
-            any_room g.K.Kept.says cells p b (length c.args.words.now) (length c.args.buffer.now) _ c.requires by (c.in_err-count.ensures.answer b by),
+            any_room g.K.Kept.says cells p b (length c.args.words.now) (length c.args.buffer.now) _ c.requires.words by (c.in_err-count.ensures.answer b by),
             (refl, refl, refl),
           );
     })
@@ -47,8 +34,8 @@ returns-in_err-count g c = λ old.
 pub returns : goal.returns
 returns g c = λ old.
     let r = c.args.self.now in
-    let p = c.in_ok-progress.progress in
-    let i = c.in_ok-progress.ensures in
+    let p = c.args.progress in
+    let i = c.requires.progress in
     let cells = c.args.cells.now in
     let count = c.in_ok-count.count in
     let words = c.deliver.new.words in
@@ -63,7 +50,7 @@ returns g c = λ old.
           let fits : count ≤ length words = omega (arith, room, c.deliver.auto.words) in
           let all : c.min-written.result ≡ count = omega (arith, c.min-written.ensures, fits) in (
             delivered count c.in_ok-count.sole (take count (numbers_in words)),
-            any_room g.K.Kept.says cells p b (length c.args.words.now) (length buffer) _ c.requires by given,
+            any_room g.K.Kept.says cells p b (length c.args.words.now) (length buffer) _ c.requires.words by given,
             (
               refl,
               simp (all, c.from.ensures) refl,
